@@ -1,11 +1,11 @@
 -- A walk by the kind of machine that the words choose.
 use Rattle.std.proofs.Common.{◌≡◌, sym, subst}
 use Rattle.std.specs.Prelude.{Result}
-use Rattle.vt_words.specs.Walk.{WalkText}
-use Rattle.vt_words.specs.declared.machines.MachineChoice.{MachineChoice}
-use Rattle.vt_command_base.specs.Effects.{CallEffect}
-use Rattle.vt_command_base.specs.CommandSpecs.{EndsBy}
-use Rattle.vt_command_base.specs.declared.refusal.Refusal.{Refusal}
+use Rattle.vt_command_words.specs.Walk.{WalkText}
+use Rattle.vt_command_words.specs.declared.machines.MachineChoice.{MachineChoice}
+use Rattle.vt_command_inputs.specs.Effects.{CallEffect}
+use Rattle.vt_command_inputs.specs.CommandSpecs.{EndsBy}
+use Rattle.vt_command_inputs.specs.declared.refusal.Refusal.{Refusal}
 use Rattle.vt_walk_commands.specs.commands.Walk.{walk_spec}
 use Rattle.vt_walk_commands.specs.Machines.{Machines, kind_by, chosen}
 

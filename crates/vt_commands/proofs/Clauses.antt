@@ -3,25 +3,25 @@ use Rattle.std.proofs.Common.{◌≡◌, ◌≢◌, ◌⊎◌, ℕ, ◌≤◌, L
 use Rattle.std.specs.Prelude.{Result, IsNone}
 use Rattle.std.specs.Option.{is_some}
 use Rattle.std.proofs.lemmas.Bool.{false≢true}
-use Rattle.vt_command_base.specs.Effects.{CallEffect, SinkState, FolderState, SinkEffect, IsWithoutEffect, IsIdle}
-use Rattle.vt_command_base.specs.Inputs.{Input, Content}
-use Rattle.vt_command_base.specs.Causes.{Cause, MissingName, FlawedInput, cause_status, IsFirstCause, AreHeld, AreAccepted}
-use Rattle.vt_command_base.specs.Tasks.{HasBadInput}
-use Rattle.vt_command_base.specs.CommandSpecs.{CommandSpec, Conflict, FlawedBeside, ManyTexels, FewFrames, LargePicture, conflict_status, IsInConflict, HasFaultBy, HasBadInputBy, EndsBy}
-use Rattle.vt_command_base.specs.Lines.{memory_line, fault_line}
-use Rattle.vt_command_base.specs.Refusals.{status_of, Told, EndTold, refusal_of_words}
+use Rattle.vt_command_inputs.specs.Effects.{CallEffect, SinkState, FolderState, SinkEffect, IsWithoutEffect, IsIdle}
+use Rattle.vt_command_inputs.specs.Inputs.{Input, Content}
+use Rattle.vt_command_inputs.specs.Causes.{Cause, MissingName, FlawedInput, cause_status, IsFirstCause, AreHeld, AreAccepted}
+use Rattle.vt_command_inputs.specs.Tasks.{HasBadInput}
+use Rattle.vt_command_inputs.specs.CommandSpecs.{CommandSpec, Conflict, FlawedBeside, ManyTexels, FewFrames, LargePicture, conflict_status, IsInConflict, HasFaultBy, HasBadInputBy, EndsBy}
+use Rattle.vt_command_inputs.specs.Lines.{memory_line, fault_line}
+use Rattle.vt_command_inputs.specs.Refusals.{status_of, Told, EndTold, refusal_of_words}
 use Rattle.vt_commands.specs.Runs.{Run, Asks, AsksNothing, RunDone, RunLeft, RunAsked, RunFault, RunBadInput, RunInConflict, RunCaused, RunStopped, RunComplete, IsRun}
 use Rattle.vt_commands.specs.Words.{CommandText, command_text}
-use Rattle.vt_words.specs.declared.arguments.WordsError.{WordsError}
-use Rattle.vt_words.specs.declared.arguments.WordsError.TheVariants as words_error
-use Rattle.vt_store_commands.specs.commands.{usage_line}
+use Rattle.vt_command_words.specs.declared.arguments.WordsError.{WordsError}
+use Rattle.vt_command_words.specs.declared.arguments.WordsError.TheVariants as words_error
+use Rattle.vt_walk_commands.specs.StoreCommandsCommands.{usage_line}
 use Rattle.vt_walk_commands.specs.Machines.{Machines}
 use Rattle.vt_commands.specs.commands.{spec_of, IsUnread, EndsCommand, EndsRun}
-use Rattle.vt_command_base.specs.declared.flaws.Flaw.{Flaw}
-use Rattle.vt_command_base.specs.declared.refusal.Refusal.{Refusal}
-use Rattle.vt_command_base.specs.declared.refusal.Refusal.TheVariants.{NoMemory, Usage, Fault, Flawed, TooFewFrames, DoesNotFit}
-use Rattle.vt_command_base.proofs.Excluded.{first_status, none_first, held_accepted, first_told, accepted_told}
-use Rattle.vt_command_base.proofs.OneContent.{same_held}
+use Rattle.vt_command_inputs.specs.declared.flaws.Flaw.{Flaw}
+use Rattle.vt_command_inputs.specs.declared.refusal.Refusal.{Refusal}
+use Rattle.vt_command_inputs.specs.declared.refusal.Refusal.TheVariants.{NoMemory, Usage, Fault, Flawed, TooFewFrames, DoesNotFit}
+use Rattle.vt_command_inputs.proofs.Excluded.{first_status, none_first, held_accepted, first_told, accepted_told}
+use Rattle.vt_command_inputs.proofs.OneContent.{same_held}
 use Rattle.vt_walk_commands.proofs.Sound.{AreSound}
 use Rattle.vt_commands.proofs.Sound.{sound}
 

@@ -1,13 +1,13 @@
 -- What is known of the specification of every command.
 use Rattle.std.proofs.Common.{[], List, refl, ap}
-use Rattle.vt_command_base.specs.Effects.{CallEffect, FolderState, IsIdle}
-use Rattle.vt_command_base.specs.Inputs.{Input}
-use Rattle.vt_command_base.specs.Causes.{AsksInOrder}
-use Rattle.vt_command_base.specs.Tasks.{Task}
-use Rattle.vt_command_base.specs.CommandSpecs.{task_spec}
-use Rattle.vt_store_commands.specs.commands.{store_task}
+use Rattle.vt_command_inputs.specs.Effects.{CallEffect, FolderState, IsIdle}
+use Rattle.vt_command_inputs.specs.Inputs.{Input}
+use Rattle.vt_command_inputs.specs.Causes.{AsksInOrder}
+use Rattle.vt_command_inputs.specs.Tasks.{Task}
+use Rattle.vt_command_inputs.specs.CommandSpecs.{task_spec}
+use Rattle.vt_walk_commands.specs.StoreCommandsCommands.{store_task}
 use Rattle.vt_walk_commands.proofs.Sound.{AreSound, replay_sound, walk_sound, trial_sound}
-use Rattle.vt_words.specs.Commands.{ReplayCommand, WalkCommand, TrialCommand}
+use Rattle.vt_command_words.specs.Commands.{ReplayCommand, WalkCommand, TrialCommand}
 use Rattle.vt_commands.specs.Words.{CommandText, OfStore, OfWalk}
 use Rattle.vt_walk_commands.specs.Machines.{Machines, chosen}
 use Rattle.vt_commands.specs.commands.{spec_of}

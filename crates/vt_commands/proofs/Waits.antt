@@ -5,17 +5,17 @@ use Rattle.std.specs.Str.{bytes_eq}
 use Rattle.std.specs.declared.alloc.Global.{Global}
 use Rattle.std.proofs.lemmas.Bool.{false≢true}
 use Rattle.std.proofs.lemmas.Slice.Eq.{bytes_eq-Decides}
-use Rattle.vt_command_base.specs.Causes.{cause_status, IsFirstCause, AreHeld}
-use Rattle.vt_command_base.specs.CommandSpecs.{CommandSpec, Conflict, conflict_status, DoneBy, LeftBySpec, IsInConflict, HasFaultBy, HasBadInputBy}
-use Rattle.vt_words.specs.Arguments.{app, found, given, texts}
-use Rattle.vt_words.specs.Replay.{replay_values}
-use Rattle.vt_words.specs.Walk.{walk_rules, walk_values}
-use Rattle.vt_words.specs.Trial.{trial_rules, trial_values}
-use Rattle.vt_words.specs.Commands.{WalkingText, ReplayCommand, WalkCommand, TrialCommand, walking_kind_of, rules_of, values_for, walking_text}
-use Rattle.vt_words.specs.declared.command.WalkingKind.{WalkingKind}
-use Rattle.vt_words.specs.declared.command.WalkingKind.TheVariants as kind
+use Rattle.vt_command_inputs.specs.Causes.{cause_status, IsFirstCause, AreHeld}
+use Rattle.vt_command_inputs.specs.CommandSpecs.{CommandSpec, Conflict, conflict_status, DoneBy, LeftBySpec, IsInConflict, HasFaultBy, HasBadInputBy}
+use Rattle.vt_command_words.specs.Arguments.{app, found, given, texts}
+use Rattle.vt_command_words.specs.Replay.{replay_values}
+use Rattle.vt_command_words.specs.Walk.{walk_rules, walk_values}
+use Rattle.vt_command_words.specs.Trial.{trial_rules, trial_values}
+use Rattle.vt_command_words.specs.Commands.{WalkingText, ReplayCommand, WalkCommand, TrialCommand, walking_kind_of, rules_of, values_for, walking_text}
+use Rattle.vt_command_words.specs.declared.command.WalkingKind.{WalkingKind}
+use Rattle.vt_command_words.specs.declared.command.WalkingKind.TheVariants as kind
 use Rattle.clap.specs.Words.{Row}
-use Rattle.vt_store_commands.specs.commands.{store_text}
+use Rattle.vt_walk_commands.specs.StoreCommandsCommands.{store_text}
 use Rattle.vt_commands.specs.Words.{CommandText, OfStore, OfWalk, named_text}
 use Rattle.vt_walk_commands.specs.Machines.{Machines}
 use Rattle.vt_commands.specs.commands.{spec_of}

@@ -1,3 +1,4 @@
+pub use Rattle.vt_command_words.specs.Arguments
 pub use Rattle.vt_walk_commands.specs.Machines
 pub mod Words
 pub mod commands

@@ -2,19 +2,19 @@
 use Rattle.std.specs.Prelude.{◌≡◌, ◌≢◌, ◌≤◌, ◌⊎◌, ℕ, List, Some, IsNone}
 use Rattle.vt_outside.specs.declared.outside.Folder.{Ghosts as FolderMeanings}
 use Rattle.vt_outside.specs.declared.outside.Sink.{Ghosts as SinkMeanings}
-use Rattle.vt_command_base.specs.Places.{bad_input_line}
-use Rattle.vt_command_base.specs.Effects.{CallEffect, SinkEffect, call_effect, sink_effect, IsWithoutEffect, IsIdle}
-use Rattle.vt_command_base.specs.Flaws.{flaw_place}
-use Rattle.vt_command_base.specs.Inputs.{Content}
-use Rattle.vt_command_base.specs.Lines.{memory_line, fault_line}
-use Rattle.vt_command_base.specs.Refusals.{Told}
-use Rattle.vt_command_base.specs.Causes.{Cause, cause_status, IsFirstCause, AreHeld}
-use Rattle.vt_command_base.specs.CommandSpecs.{Conflict, conflict_status, conflict_line, DoneBy, LeftBySpec, IsInConflict, HasFaultBy, HasBadInputBy}
+use Rattle.vt_command_inputs.specs.Places.{bad_input_line}
+use Rattle.vt_command_inputs.specs.Effects.{CallEffect, SinkEffect, call_effect, sink_effect, IsWithoutEffect, IsIdle}
+use Rattle.vt_command_inputs.specs.Flaws.{flaw_place}
+use Rattle.vt_command_inputs.specs.Inputs.{Content}
+use Rattle.vt_command_inputs.specs.Lines.{memory_line, fault_line}
+use Rattle.vt_command_inputs.specs.Refusals.{Told}
+use Rattle.vt_command_inputs.specs.Causes.{Cause, cause_status, IsFirstCause, AreHeld}
+use Rattle.vt_command_inputs.specs.CommandSpecs.{Conflict, conflict_status, conflict_line, DoneBy, LeftBySpec, IsInConflict, HasFaultBy, HasBadInputBy}
 use Rattle.vt_commands.specs.Words.{CommandText, command_text}
-use Rattle.vt_store_commands.specs.commands.{usage_line}
+use Rattle.vt_walk_commands.specs.StoreCommandsCommands.{usage_line}
 use Rattle.vt_walk_commands.specs.Machines.{Machines}
 use Rattle.vt_commands.specs.commands.{spec_of}
-use Rattle.vt_command_base.specs.declared.flaws.Flaw.{Flaw}
+use Rattle.vt_command_inputs.specs.declared.flaws.Flaw.{Flaw}
 
 -- a run: the kinds of machines by which it may walk, its words, the folder and the output before and after it, and the error output
 pub record Run : Type 1 where

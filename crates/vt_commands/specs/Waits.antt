@@ -1,7 +1,7 @@
 -- Which commands may wait for other threads: `walk` and `trial`.
 use Rattle.std.specs.Prelude.{ℕ, List, [], ◌∷◌, Bool, false, ◌||◌, codes}
 use Rattle.std.specs.Str.{bytes_eq}
-use Rattle.vt_words.specs.Commands.{ReplayCommand, WalkCommand, TrialCommand}
+use Rattle.vt_command_words.specs.Commands.{ReplayCommand, WalkCommand, TrialCommand}
 use Rattle.vt_commands.specs.Words.{CommandText, OfStore, OfWalk}
 use Rattle.vt_walk_commands.specs.Machines.{MachineKind, Machines}
 

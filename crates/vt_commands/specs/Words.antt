@@ -1,12 +1,12 @@
 -- The commands by their words.
 use Rattle.std.specs.Prelude.{ℕ, List, [], ◌∷◌, Option, None, is_some, option_map, Bool, if◌then◌else◌}
-use Rattle.vt_words.specs.Commands.{WalkingText, ReplayCommand, WalkCommand, TrialCommand, walking_kind_of, walking_text}
-use Rattle.vt_words.specs.Replay.{shown_replay, IsLawfulReplay}
-use Rattle.vt_words.specs.Walk.{shown_walk, IsLawfulWalk}
-use Rattle.vt_words.specs.Trial.{shown_trial, IsLawfulTrial}
-use Rattle.vt_words.specs.declared.command.WalkingCommand.{WalkingCommand}
-use Rattle.vt_words.specs.declared.command.WalkingCommand.TheVariants as walking
-use Rattle.vt_store_commands.specs.commands.{StoreText, store_text, shown_store, IsLawfulStore}
+use Rattle.vt_command_words.specs.Commands.{WalkingText, ReplayCommand, WalkCommand, TrialCommand, walking_kind_of, walking_text}
+use Rattle.vt_command_words.specs.Replay.{shown_replay, IsLawfulReplay}
+use Rattle.vt_command_words.specs.Walk.{shown_walk, IsLawfulWalk}
+use Rattle.vt_command_words.specs.Trial.{shown_trial, IsLawfulTrial}
+use Rattle.vt_command_words.specs.declared.command.WalkingCommand.{WalkingCommand}
+use Rattle.vt_command_words.specs.declared.command.WalkingCommand.TheVariants as walking
+use Rattle.vt_walk_commands.specs.StoreCommandsCommands.{StoreText, store_text, shown_store, IsLawfulStore}
 use Rattle.vt_commands.specs.declared.command.Command.{Command}
 use Rattle.vt_commands.specs.declared.command.Command.TheVariants.{Store, Replay, Walk, Trial}
 

@@ -1,16 +1,16 @@
 -- The commands: what each has to do, and how a run ends.
 use Rattle.std.specs.Prelude.{◌≡◌, ◌⊎◌, ℕ, List, Option, Some, IsNone, Result, Ok, Err}
-use Rattle.vt_words.specs.Commands.{ReplayCommand, WalkCommand, TrialCommand}
+use Rattle.vt_command_words.specs.Commands.{ReplayCommand, WalkCommand, TrialCommand}
 use Rattle.vt_commands.specs.Words.{CommandText, OfStore, OfWalk, command_text}
-use Rattle.vt_command_base.specs.Effects.{CallEffect, IsIdle}
-use Rattle.vt_command_base.specs.CommandSpecs.{CommandSpec, EndsBy}
-use Rattle.vt_store_commands.specs.commands.{store_spec}
+use Rattle.vt_command_inputs.specs.Effects.{CallEffect, IsIdle}
+use Rattle.vt_command_inputs.specs.CommandSpecs.{CommandSpec, EndsBy}
+use Rattle.vt_walk_commands.specs.StoreCommandsCommands.{store_spec}
 use Rattle.vt_walk_commands.specs.commands.Replay.{replay_spec}
 use Rattle.vt_walk_commands.specs.commands.Walk.{walk_spec}
 use Rattle.vt_walk_commands.specs.commands.Trial.{trial_spec}
 use Rattle.vt_walk_commands.specs.Machines.{Machines, chosen}
-use Rattle.vt_command_base.specs.declared.refusal.Refusal.{Refusal}
-use Rattle.vt_command_base.specs.declared.refusal.Refusal.TheVariants.{NoMemory, Usage, Fault, Flawed, TooFewFrames, DoesNotFit}
+use Rattle.vt_command_inputs.specs.declared.refusal.Refusal.{Refusal}
+use Rattle.vt_command_inputs.specs.declared.refusal.Refusal.TheVariants.{NoMemory, Usage, Fault, Flawed, TooFewFrames, DoesNotFit}
 
 -- the specification of a command by these machines
 abbrev pub spec_of : Machines → CommandText → CommandSpec

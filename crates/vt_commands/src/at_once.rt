@@ -1,10 +1,10 @@
 //! The commands that do not wait: all but `walk` and `trial`.
 
 ghost use Rattle.std.specs.Prelude.{◌≡◌, false};
-ghost use Rattle.vt_words.specs.Arguments.{texts};
+ghost use Rattle.vt_command_words.specs.Arguments.{texts};
 ghost use Rattle.vt_commands.specs.Words.{shown, IsLawful};
-ghost use Rattle.vt_command_base.specs.Effects.{call_effect};
-ghost use Rattle.vt_command_base.specs.CommandSpecs.{EndsBy};
+ghost use Rattle.vt_command_inputs.specs.Effects.{call_effect};
+ghost use Rattle.vt_command_inputs.specs.CommandSpecs.{EndsBy};
 ghost use Rattle.vt_commands.specs.commands.{spec_of, EndsRun};
 ghost use Rattle.vt_commands.specs.Waits.{is_waiting_name, may_wait, MayWait, no_machines};
 ghost use Rattle.vt_commands.specs.Runs.{run_of, IsRun};
@@ -12,10 +12,9 @@ ghost use Rattle.vt_commands.specs.Runs.{run_of, IsRun};
 use crate::command::{Command, read_command};
 use std::alloc::Global;
 use std::thread::Threads;
-use vt_command_base::{Refusal, status_of, tell_end};
+use vt_command_inputs::{Refusal, status_of, tell_end};
 use vt_outside::{Folder, Sink};
-use vt_store_commands::commands::{perform_store_command, usage_line};
-use vt_walk_commands::replay;
+use vt_walk_commands::{perform_store_command, replay, usage_line};
 
 /// Whether the words may be those of a command that waits: the first one is `walk` or `trial`.
 pub fn may_wait(words: &[String]) -> bool

@@ -1,19 +1,18 @@
 //! The choice of the machine by which the words have a walk drawn: a machine is a type parameter, and an arm here.
 
-ghost use Rattle.vt_words.specs.Walk.{shown_walk, IsLawfulWalk};
-ghost use Rattle.vt_command_base.specs.Effects.{call_effect};
+ghost use Rattle.vt_command_words.specs.Walk.{shown_walk, IsLawfulWalk};
+ghost use Rattle.vt_command_inputs.specs.Effects.{call_effect};
 ghost use Rattle.vt_walk_commands.specs.commands.Walk.{walk_spec};
-ghost use Rattle.vt_command_base.specs.CommandSpecs.{EndsBy};
+ghost use Rattle.vt_command_inputs.specs.CommandSpecs.{EndsBy};
 ghost use Rattle.vt_walk_commands.specs.Machines.{machines_of, kind_of, chosen};
 
 use std::alloc::Global;
 use std::sync::Wait;
 use std::thread::Threads;
-use vt_command_base::Refusal;
-use vt_machine::PassMachine;
+use vt_command_inputs::Refusal;
+use vt_command_words::{MachineChoice, WalkWords};
 use vt_outside::{Folder, Gate, Sink};
-use vt_walk_commands::walk;
-use vt_words::{MachineChoice, WalkWords};
+use vt_walk_commands::{PassMachine, walk};
 
 /// Walks by the machine that the words choose.
 pub fn walk_chosen<

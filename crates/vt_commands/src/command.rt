@@ -1,16 +1,16 @@
 //! Which command the words ask for.
 
 ghost use Rattle.std.specs.Prelude.{◌≡◌, Some, IfOk, IsErr, IsErrOf, IsNone};
-ghost use Rattle.vt_words.specs.Arguments.{texts};
-ghost use Rattle.vt_words.specs.Reading.{IsAnswer};
+ghost use Rattle.vt_command_words.specs.Arguments.{texts};
+ghost use Rattle.vt_command_words.specs.Reading.{IsAnswer};
 ghost use Rattle.vt_commands.specs.Words.{is_walking_name, named_text, command_text, command_of, shown, IsLawful};
 
 use std::alloc::Global;
-use vt_store_commands::commands::{StoreCommand, read_store_command};
-use vt_words::{
+use vt_command_words::{
     ReplayWords, TrialWords, WalkWords, WalkingCommand, WordsError, read_walking_command,
     walking_kind_of,
 };
+use vt_walk_commands::{StoreCommand, read_store_command};
 
 /// A command and its words.
 #[derive(Clone, Copy)]

@@ -1,11 +1,11 @@
 //! The commands that may wait for other threads: `walk` and `trial`.
 
 ghost use Rattle.std.specs.Prelude.{◌≡◌, true};
-ghost use Rattle.vt_words.specs.Arguments.{texts};
+ghost use Rattle.vt_command_words.specs.Arguments.{texts};
 ghost use Rattle.vt_commands.specs.Words.{shown, IsLawful};
-ghost use Rattle.vt_command_base.specs.Effects.{call_effect};
+ghost use Rattle.vt_command_inputs.specs.Effects.{call_effect};
 ghost use Rattle.vt_walk_commands.specs.Machines.{machines_of, kind_of};
-ghost use Rattle.vt_command_base.specs.CommandSpecs.{EndsBy};
+ghost use Rattle.vt_command_inputs.specs.CommandSpecs.{EndsBy};
 ghost use Rattle.vt_commands.specs.commands.{spec_of, EndsRun};
 ghost use Rattle.vt_commands.specs.Waits.{may_wait, MayWait};
 ghost use Rattle.vt_commands.specs.Runs.{run_of, IsRun};
@@ -15,11 +15,9 @@ use crate::command::{Command, read_command};
 use std::alloc::Global;
 use std::sync::Wait;
 use std::thread::Threads;
-use vt_command_base::{Refusal, status_of, tell_end};
-use vt_machine::PassMachine;
+use vt_command_inputs::{Refusal, status_of, tell_end};
 use vt_outside::{Folder, Gate, Sink};
-use vt_store_commands::commands::usage_line;
-use vt_walk_commands::trial;
+use vt_walk_commands::{PassMachine, trial, usage_line};
 
 /// Does what `run` does, where the words are those of a command that may wait.
 pub fn run_waiting<

@@ -6,9 +6,9 @@ use Rattle.std.proofs.lemmas.List.{append-nil, length-append, length-take-le}
 use Rattle.std.proofs.Math.Seq.{take-append_seam, take-append-add}
 use Rattle.std.proofs.lemmas.List.Concat.{flat_map-append}
 use borrow.Rule.Slice.PartMut.{put_mid, post_of}
-use Rattle.vt_definitions.specs.Depths.{word_bytes, red_of, green_of, blue_of, bytes_from, texel_bytes}
-use Rattle.vt_definitions.specs.Numbers.{number_bytes}
-use Rattle.vt_definitions.specs.Texels.{Source}
+use Rattle.vt_pages.specs.Depths.{word_bytes, red_of, green_of, blue_of, bytes_from, texel_bytes}
+use Rattle.vt_pages.specs.Numbers.{number_bytes}
+use Rattle.vt_pages.specs.Texels.{Source}
 use Rattle.vt_mip.specs.Chains.{IsTexelRaster}
 use Rattle.vt_camera.specs.declared.paths.Camera.{Camera}
 use Rattle.vt_camera.specs.declared.surfaces.Surface.{Surface}

@@ -5,7 +5,7 @@ use Rattle.vt_pages.specs.Pages.{texel_page}
 use Rattle.vt_camera.specs.Rows.{RowView, row_level, row_place}
 use Rattle.vt_draw.specs.declared.lookups.Found.{Found}
 use Rattle.vt_draw.specs.Lookups.{Note, WordNote, IsFinest, place_in_tile}
-use Rattle.vt_definitions.specs.Depths.{texel_bytes}
+use Rattle.vt_pages.specs.Depths.{texel_bytes}
 use Rattle.vt_draw.specs.Shots.{wanted_page, drawn_place, IsDrawn}
 
 pub finest_kept : (s : Shape) (version : ℕ) (says later : Note → Type 0) (p : ℕ) (found : Found) → ((note : Note) → says note → later note)

@@ -1,6 +1,6 @@
 -- What was drawn and counted of a row, by equations on its depth, its numbers and its length.
 use Rattle.std.proofs.Common.{◌≡◌, ◌≢◌, ℕ, inl, inr, List, sym, subst}
-use Rattle.vt_definitions.specs.Depths.{IsDepth, texel_bytes}
+use Rattle.vt_pages.specs.Depths.{IsDepth, texel_bytes}
 use Rattle.vt_pages.specs.Shape.{Shape}
 use Rattle.vt_camera.specs.Rows.{RowView}
 use Rattle.vt_draw.specs.Lookups.{Note}

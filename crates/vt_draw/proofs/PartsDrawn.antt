@@ -4,12 +4,12 @@ use Rattle.std.proofs.lemmas.List.{append-nil, length-take-le, take_all}
 use Rattle.std.proofs.lemmas.Nat.{column_fits}
 use Rattle.std.proofs.Math.Seq.{take-append_seam, take-append-add}
 use borrow.Rule.Slice.PartMut.{put_mid, post_of}
-use Rattle.vt_definitions.specs.Texels.{Source}
+use Rattle.vt_pages.specs.Texels.{Source}
 use Rattle.vt_camera.specs.declared.paths.Camera.{Camera}
 use Rattle.vt_camera.specs.declared.surfaces.Surface.{Surface}
 use Rattle.vt_camera.specs.Paths.{PathView}
 use Rattle.vt_camera.specs.Rows.{RowView, row_of}
-use Rattle.vt_definitions.specs.Depths.{texel_length}
+use Rattle.vt_pages.specs.Depths.{texel_length}
 use Rattle.vt_draw.specs.declared.plain.View.{View}
 use Rattle.vt_draw.specs.Plain.{row_samples, first_rows}
 use Rattle.vt_draw.specs.Views.{IsRoomFor}

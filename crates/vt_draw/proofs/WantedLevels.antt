@@ -2,9 +2,9 @@
 use Rattle.std.proofs.Common.{◌≡◌, ℕ, zero, suc, ◌+◌, ◌-◌, ◌*◌, ◌/◌, ◌^◌, ◌<◌, ◌≤◌, refl, sym, ap, ◌∙◌, subst, arith, unsigned_abs}
 use Rattle.std.proofs.Math.Nat.{div-mul-le_self}
 use Rattle.std.proofs.lemmas.Nat.{le-div, mul-le}
-use Rattle.vt_definitions.specs.Limits.{most_levels}
-use Rattle.vt_definitions.specs.Sides.{side, level_count}
-use Rattle.vt_definitions.specs.Texels.{Source}
+use Rattle.vt_pages.specs.Limits.{most_levels}
+use Rattle.vt_pages.specs.Sides.{side, level_count}
+use Rattle.vt_pages.specs.Texels.{Source}
 use Rattle.vt_mip.specs.Image.{ImageView}
 use Rattle.vt_mip.specs.Chains.{chain_levels, chain_width, chain_height}
 use Rattle.vt_mip.specs.Levels.{IsLevel}

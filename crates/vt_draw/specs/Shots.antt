@@ -1,7 +1,7 @@
 -- A row of a picture that is drawn over a look-up of pages.
 use Rattle.std.specs.Prelude.{◌≡◌, ℕ, ◌+◌, ◌<◌, ◌==◌, if◌then◌else◌, List, length, slice_index, sum_by}
 use Rattle.std.specs.List.{range_with_len, count_by}
-use Rattle.vt_definitions.specs.Depths.{texel_bytes, word_bytes}
+use Rattle.vt_pages.specs.Depths.{texel_bytes, word_bytes}
 use Rattle.vt_pages.specs.Shape.{Shape}
 use Rattle.vt_pages.specs.Pages.{levels_of}
 use Rattle.vt_camera.specs.declared.surfaces.Surface.{Surface}

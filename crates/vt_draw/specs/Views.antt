@@ -1,9 +1,9 @@
 -- What the rows of a plain picture are drawn of: the levels of a texture that are there, and a camera whose rows want no other.
 use Rattle.std.specs.Prelude.{◌≡◌, ◌-◌, ◌*◌, ◌<◌, ◌≤◌, ℕ, List}
-use Rattle.vt_definitions.specs.Depths.{IsDepth, texel_length}
-use Rattle.vt_definitions.specs.Limits.{most_levels}
-use Rattle.vt_definitions.specs.Sides.{side}
-use Rattle.vt_definitions.specs.Texels.{Source}
+use Rattle.vt_pages.specs.Depths.{IsDepth, texel_length}
+use Rattle.vt_pages.specs.Limits.{most_levels}
+use Rattle.vt_pages.specs.Sides.{side}
+use Rattle.vt_pages.specs.Texels.{Source}
 use Rattle.vt_mip.specs.Chains.{chain_levels, chain_width, chain_height}
 use Rattle.vt_camera.specs.declared.paths.Camera.{Camera}
 use Rattle.vt_camera.specs.Paths.{PathView, IsCamera}

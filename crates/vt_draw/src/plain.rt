@@ -2,9 +2,9 @@
 
 ghost use Rattle.std.specs.Prelude.{◌≡◌, ◌+◌, ◌-◌, ◌*◌, ◌<◌, ◌≤◌, ◌++◌, length, take, IfOk};
 ghost use Rattle.std.specs.Thread.{IsSync};
-ghost use Rattle.vt_definitions.specs.Depths.{IsDepth, texel_length, texel_bytes};
-ghost use Rattle.vt_definitions.specs.Limits.{most_levels};
-ghost use Rattle.vt_definitions.specs.Sides.{side};
+ghost use Rattle.vt_pages.specs.Depths.{IsDepth, texel_length, texel_bytes};
+ghost use Rattle.vt_pages.specs.Limits.{most_levels};
+ghost use Rattle.vt_pages.specs.Sides.{side};
 ghost use Rattle.vt_mip.specs.Chains.{chain_levels, chain_width, chain_height};
 ghost use Rattle.vt_camera.specs.Rows.{IsSurface, row_level};
 ghost use Rattle.vt_draw.specs.Plain.{camera_at, chain_of, levels_from, surface_of, row_samples, plain_picture, plain_samples};
@@ -13,12 +13,9 @@ ghost use Rattle.vt_draw.specs.Views.{AreLevels, IsView, IsRoomFor, WantsNone, r
 use std::alloc::Global;
 use std::thread::{Threads, join_mut};
 use vt_camera::{Camera, Path, Row, Surface};
-use vt_definitions::texel_length;
 use vt_mip::{Chain, NoMemory};
-use vt_parts::{processors, share, threads_for};
-
-/// How many nanoseconds it takes to draw a pixel, about: 3.5 were measured.
-pub const DRAWING_TIME: u64 = 4;
+use vt_pages::texel_length;
+use vt_threads::{DRAWING_TIME, processors, share, threads_for};
 
 /// Draws the plain picture with this number of a path, row by row from the top: three samples a pixel, each of as many bytes as
 /// the chain's samples have, the most significant first. A pixel shows what the level of its row has at the pixel's place

@@ -1,7 +1,7 @@
 //! Drawing a row of a picture over a look-up of pages.
 
 ghost use Rattle.std.specs.Prelude.{◌≡◌, ℕ, ◌+◌, ◌*◌, ◌<◌, ◌≤◌, ◌^◌, length, slice_index};
-ghost use Rattle.vt_definitions.specs.Depths.{IsDepth, texel_length};
+ghost use Rattle.vt_pages.specs.Depths.{IsDepth, texel_length};
 ghost use Rattle.vt_pages.specs.Pages.{pages_of, IsWithinLimits};
 ghost use Rattle.vt_draw.specs.Lookups.{Note};
 ghost use Rattle.vt_draw.specs.Shots.{paged_surface, shot_row, run_of, AreDrawn, AreCounted};
@@ -9,8 +9,7 @@ ghost use Rattle.vt_draw.specs.Shots.{paged_surface, shot_row, run_of, AreDrawn,
 use crate::lookups::Lookup;
 use crate::pixels::{found_for, page_at_place, word_at_place};
 use vt_camera::{Path, Row, Surface};
-use vt_definitions::put_word;
-use vt_pages::Geometry;
+use vt_pages::{Geometry, put_word};
 
 /// A picture to draw: a texture that is cut into pages, a path, and the number of one of the path's pictures.
 #[derive(Clone, Copy)]

@@ -8,7 +8,7 @@ use Rattle.std.proofs.lemmas.Cmp.{nat_cmp_total}
 use Rattle.std.proofs.lemmas.Map.Lookups.{btree_set_from_contains, CmpEqualImpliesEq}
 use Rattle.std.proofs.lemmas.Bool.Decides.{nat_tests}
 use Rattle.vt_plan.specs.PageLists.{is_in}
-use Rattle.vt_evict.specs.Views.{RecencyView, is_held, free_frames}
+use Rattle.vt_plan.specs.Views.{RecencyView, is_held, free_frames}
 use Rattle.vt_evict.proofs.ListLemmas.{by_recursion-filter}
 use Rattle.vt_plan.proofs.ListLemmas.{is_in-filter}
 

@@ -19,12 +19,12 @@ use Rattle.vt_plan.specs.FeedbackTypes.Wanted.{Wanted}
 use Rattle.vt_plan.specs.Wants.{pages_wanted}
 use Rattle.vt_plan.specs.declared.batches.Planned.{Planned}
 use Rattle.vt_plan.specs.Lookups.{next_finer_page}
-use Rattle.vt_evict.specs.Orders.{line_pages}
+use Rattle.vt_plan.specs.Orders.{line_pages}
 use Rattle.vt_plan.specs.PageLists.{is_in}
-use Rattle.vt_evict.specs.Views.{RecencyView, IsTable, is_pinned, is_loose, is_held, frame_of, free_frames}
+use Rattle.vt_plan.specs.Views.{RecencyView, IsTable, is_pinned, is_loose, is_held, frame_of, free_frames}
 use Rattle.vt_plan.specs.Missing.{is_mapped, missing_from}
 use Rattle.vt_evict.specs.Batches.{IsLawful, IsLawfulEntry}
-use Rattle.vt_evict.specs.Plans.{missing_pages, candidates, planned_at, planned_count, plan_of}
+use Rattle.vt_plan.specs.Plans.{missing_pages, candidates, planned_at, planned_count, plan_of}
 use Rattle.vt_plan.specs.Entries.{freed_at, taken_at}
 use Rattle.vt_evict.proofs.ListLemmas.{nat_eq_swap, is_in-reverse, distinct-filter, each_once_distinct, by_recursion-each_once, range_once, and_true, and_false}
 use Rattle.vt_plan.proofs.ListLemmas.{is_in-filter}

@@ -13,7 +13,7 @@ use Rattle.vt_plan.specs.Shape.{Shape}
 use Rattle.vt_plan.specs.Pages.{levels_of, pages_of, index_of, IsWithinLimits, level_of, name_at, parent_name, parent_of, ancestors_of}
 use Rattle.vt_plan.proofs.Lines.{parent_is, reaches_root}
 use Rattle.vt_plan.proofs.Parents.{parent_page, line-root, line-parent, parent_facts, root_facts, level_below, line_distinct}
-use Rattle.vt_evict.specs.Orders.{line_pages}
+use Rattle.vt_plan.specs.Orders.{line_pages}
 use Rattle.vt_plan.specs.PageLists.{is_in, each_once, with_page}
 use Rattle.vt_evict.specs.Kept.{IsClosed}
 use Rattle.vt_evict.proofs.ListLemmas.{nat_eq_swap, each_once-distinct, filter_none, by_recursion-reverse, is_in-more, is_in-reverse}

@@ -10,7 +10,7 @@ use Rattle.std.proofs.lemmas.List.Kept.{AllPairs-filter}
 use Rattle.vt_plan.specs.Shape.{Shape}
 use Rattle.vt_plan.specs.Pages.{pages_of, level_of, ancestors_of, IsWithinLimits}
 use Rattle.vt_plan.proofs.Parents.{line_rises}
-use Rattle.vt_evict.specs.Orders.{line_pages}
+use Rattle.vt_plan.specs.Orders.{line_pages}
 use Rattle.vt_plan.specs.PageLists.{is_in, each_once}
 use Rattle.vt_evict.proofs.ListLemmas.{below_in, is_in-append, is_in-reverse, each_once_distinct}
 use Rattle.vt_plan.proofs.ListLemmas.{is_in-each_once, each_once-append, filter_all, all_true}

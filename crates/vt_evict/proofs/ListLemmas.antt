@@ -11,7 +11,7 @@ use Rattle.std.proofs.lemmas.Map.Made.{length-le_from_is_member}
 use Rattle.std.proofs.lemmas.List.FromFn.{length-range_with_len, get_or-range_with_len}
 use Rattle.vt_plan.specs.PageLists.{is_in, each_once}
 use Rattle.vt_plan.proofs.ListLemmas.{nat_eq_true, filter_twice, filter_same, is_in-filter, neither, filter_all, all_true}
-use Rattle.vt_evict.specs.Orders.{put_first}
+use Rattle.vt_plan.specs.Orders.{put_first}
 
 pub nat_eq_swap : (x y : ℕ) → nat_eq x y ≡ nat_eq y x
 nat_eq_swap x y = grind (arith, nat_tests)

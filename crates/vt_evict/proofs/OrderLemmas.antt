@@ -9,7 +9,7 @@ use Rattle.std.proofs.lemmas.List.Sorted.{IsPermutation-middle}
 use Rattle.std.proofs.lemmas.Map.Keys.{IsDistinct-head, IsDistinct-tail, IsDistinct-IsPermutation}
 use Rattle.lru.specs.LruCache.{LruCache, promoted, put_entries}
 use Rattle.lru.proofs.CallerLemmas.{Contains-lookup_entry}
-use Rattle.vt_evict.specs.Orders.{put_first, promoted_if}
+use Rattle.vt_plan.specs.Orders.{put_first, promoted_if}
 use Rattle.vt_plan.specs.PageLists.{is_in}
 use Rattle.vt_evict.proofs.ListLemmas.{nat_eq_swap, present, filter_absent, is_in-append, put_first-more}
 use Rattle.vt_plan.proofs.ListLemmas.{nat_eq_true, is_in-filter}

@@ -8,8 +8,8 @@ use Rattle.std.proofs.lemmas.Option.{slice_get-get_or}
 use Rattle.std.proofs.lemmas.List.FromFn.{map-range_with_len_more}
 use Rattle.vt_plan.specs.FeedbackTypes.Wanted.{Wanted}
 use Rattle.vt_plan.specs.declared.batches.Planned.{Planned}
-use Rattle.vt_evict.specs.Views.{RecencyView, frame_of}
-use Rattle.vt_evict.specs.Plans.{candidates, planned_at, planned_count}
+use Rattle.vt_plan.specs.Views.{RecencyView, frame_of}
+use Rattle.vt_plan.specs.Plans.{candidates, planned_at, planned_count}
 use Rattle.vt_evict.specs.Kept.{HasTaken}
 use Rattle.vt_plan.specs.Entries.{freed_at, taken_at}
 

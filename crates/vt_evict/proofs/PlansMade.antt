@@ -6,9 +6,9 @@ use Rattle.vt_outside.specs.Lists.{ListView}
 use Rattle.vt_plan.specs.Pages.{pages_of}
 use Rattle.vt_plan.specs.FeedbackTypes.Wanted.{Wanted}
 use Rattle.vt_plan.specs.declared.batches.Planned.{Planned}
-use Rattle.vt_evict.specs.Views.{RecencyView, IsTable}
+use Rattle.vt_plan.specs.Views.{RecencyView, IsTable}
 use Rattle.vt_evict.specs.Batches.{IsLawful}
-use Rattle.vt_evict.specs.Plans.{plan_of, plan_by, missing_pages}
+use Rattle.vt_plan.specs.Plans.{plan_of, plan_by, missing_pages}
 use Rattle.vt_evict.proofs.LawfulLemmas.{plan_lawful, plan_count}
 
 same_plan : (v : RecencyView) (wants : List Wanted) (missing : List ℕ) (q : ℕ) → missing ≡ missing_pages v wants → plan_by v wants missing q ≡ plan_of v wants q

@@ -1,7 +1,7 @@
 -- What a recency's fields say, as callers see it.
 use Rattle.std.proofs.Common.{ℕ, List}
 use Rattle.vt_plan.specs.Shape.{Shape}
-use Rattle.vt_evict.specs.Views.{RecencyView}
+use Rattle.vt_plan.specs.Views.{RecencyView}
 
 -- the view of some fields
 abbrev pub view_of : Shape → ℕ → ℕ → List ℕ → List ℕ → RecencyView

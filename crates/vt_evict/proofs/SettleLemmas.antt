@@ -12,7 +12,7 @@ use Rattle.std.proofs.lemmas.List.Folds.{list_any_at, list_any_none, Any-from_li
 use Rattle.vt_plan.specs.Pages.{pages_of}
 use Rattle.vt_plan.specs.declared.batches.Planned.{Planned}
 use Rattle.vt_plan.specs.PageLists.{is_in}
-use Rattle.vt_evict.specs.Views.{RecencyView, IsTable, is_pinned, is_loose, is_held}
+use Rattle.vt_plan.specs.Views.{RecencyView, IsTable, is_pinned, is_loose, is_held}
 use Rattle.vt_plan.specs.Missing.{is_mapped}
 use Rattle.vt_evict.specs.Batches.{IsFree, IsLawful, IsVictim, IsLawfulEntry, IsSettled, is_page, is_victim, is_read, read_entries, settled_order}
 use Rattle.vt_evict.specs.Kept.{without_victim, order_without, applied}

@@ -10,9 +10,9 @@ use Rattle.std.proofs.lemmas.List.Sums.{passes_at_first}
 use Rattle.vt_plan.specs.Shape.{Shape}
 use Rattle.vt_plan.specs.Pages.{level_of, ancestors_of, pages_of, IsWithinLimits}
 use Rattle.vt_plan.specs.Wants.{pages_wanted}
-use Rattle.vt_evict.specs.Orders.{line_pages, put_first}
+use Rattle.vt_plan.specs.Orders.{line_pages, put_first}
 use Rattle.vt_plan.specs.PageLists.{is_in}
-use Rattle.vt_evict.specs.Views.{RecencyView, IsTable, is_loose, touched, touched_pages}
+use Rattle.vt_plan.specs.Views.{RecencyView, IsTable, is_loose, touched, touched_pages}
 use Rattle.vt_evict.specs.Batches.{IsLawful, IsSettled, is_victim, read_entries, settled_order}
 use Rattle.vt_evict.specs.Stamps.{Stamp, is_less, Stamps, Pass, stamp_at, IsReadAt, IsByEntry, IsByWant, IsOwn, IsGreatest, AreAfter, AreBefore, IsAbove, IsByStamps}
 use Rattle.vt_plan.proofs.ListLemmas.{is_in-filter}

@@ -13,10 +13,10 @@ use Rattle.vt_plan.specs.FeedbackTypes.Wanted.{Wanted}
 use Rattle.vt_plan.specs.Wants.{pages_wanted}
 use Rattle.vt_plan.proofs.OrderedLists.{ordered_are_one}
 use Rattle.vt_plan.specs.declared.batches.Planned.{Planned}
-use Rattle.vt_evict.specs.Orders.{line_pages}
+use Rattle.vt_plan.specs.Orders.{line_pages}
 use Rattle.vt_plan.specs.PageLists.{is_in}
-use Rattle.vt_evict.specs.Views.{RecencyView, IsTable, is_loose, first_view}
-use Rattle.vt_evict.specs.Plans.{candidates}
+use Rattle.vt_plan.specs.Views.{RecencyView, IsTable, is_loose, first_view}
+use Rattle.vt_plan.specs.Plans.{candidates}
 use Rattle.vt_evict.specs.Stamps.{Stamp, is_less, Stamps, no_stamps, Pass, IsByEntry, IsByWant, IsOwn, IsGreatest, AreAfter, AreBefore, IsAbove, IsByStamps}
 use Rattle.vt_evict.proofs.ListLemmas.{is_in-reverse}
 use Rattle.vt_plan.proofs.ListLemmas.{nat_eq_true, is_in-filter}

@@ -5,9 +5,9 @@ use Rattle.std.proofs.lemmas.Bool.Decides.{nat_tests}
 use Rattle.vt_plan.specs.Pages.{pages_of}
 use Rattle.vt_plan.specs.FeedbackTypes.Wanted.{Wanted}
 use Rattle.vt_plan.specs.Wants.{pages_wanted}
-use Rattle.vt_evict.specs.Orders.{put_first, line_pages}
+use Rattle.vt_plan.specs.Orders.{put_first, line_pages}
 use Rattle.vt_plan.specs.PageLists.{is_in}
-use Rattle.vt_evict.specs.Views.{RecencyView, IsTable, is_pinned, is_loose, is_loose_below, touched_pages, touched, pages_needed}
+use Rattle.vt_plan.specs.Views.{RecencyView, IsTable, is_pinned, is_loose, is_loose_below, touched_pages, touched, pages_needed}
 use Rattle.vt_plan.specs.Missing.{is_mapped}
 use Rattle.vt_evict.proofs.ListLemmas.{is_in-more, distinct-filter, each_once_distinct, put_once}
 use Rattle.vt_plan.proofs.ListLemmas.{filter_same, is_in-filter}

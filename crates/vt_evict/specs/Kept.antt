@@ -8,8 +8,8 @@ use Rattle.vt_plan.specs.FeedbackTypes.Wanted.{Wanted}
 use Rattle.vt_plan.specs.declared.batches.Planned.{Planned}
 use Rattle.vt_plan.specs.PageLists.{is_in}
 use Rattle.vt_plan.specs.Entries.{taken_at}
-use Rattle.vt_evict.specs.Views.{RecencyView, IsTable, is_held}
-use Rattle.vt_evict.specs.Plans.{candidates}
+use Rattle.vt_plan.specs.Views.{RecencyView, IsTable, is_held}
+use Rattle.vt_plan.specs.Plans.{candidates}
 
 -- of so many pages those that were walked over are marked, and there is room for the others
 pub record IsWalk (pages : ℕ) (marks : List Bool) (walked : ListView ℕ) : Type 0 where

@@ -7,7 +7,7 @@ use Rattle.vt_plan.specs.FeedbackTypes.Wanted.{Wanted}
 use Rattle.vt_plan.specs.Wants.{pages_wanted}
 use Rattle.vt_plan.specs.declared.batches.Planned.{Planned}
 use Rattle.vt_plan.specs.PageLists.{is_in}
-use Rattle.vt_evict.specs.Views.{RecencyView, is_loose}
+use Rattle.vt_plan.specs.Views.{RecencyView, is_loose}
 
 -- a stamp: the pass that gave it, its place among those of that pass, and the level of its page
 pub record Stamp : Type 0 where

@@ -4,9 +4,9 @@ ghost use Rattle.std.specs.Prelude.{ℕ, ◌<◌, ◌≤◌, List, length};
 ghost use Rattle.std.specs.List.{All};
 ghost use Rattle.vt_plan.specs.Pages.{pages_of};
 ghost use Rattle.vt_plan.specs.FeedbackTypes.Wanted.{Wanted};
-ghost use Rattle.vt_evict.specs.Views.{RecencyView, IsTable};
+ghost use Rattle.vt_plan.specs.Views.{RecencyView, IsTable};
 ghost use Rattle.vt_evict.specs.Batches.{IsLawful};
-ghost use Rattle.vt_evict.specs.Plans.{plan_of};
+ghost use Rattle.vt_plan.specs.Plans.{plan_of};
 
 /// The plan for a wanted list of the chain's pages is lawful for its table, and has at most `q` entries.
 pub fn plan_is_lawful()

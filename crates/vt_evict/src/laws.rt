@@ -6,9 +6,9 @@ ghost use Rattle.vt_plan.specs.Shape.{Shape};
 ghost use Rattle.vt_plan.specs.Pages.{pages_of, ancestors_of};
 ghost use Rattle.vt_plan.specs.FeedbackTypes.Wanted.{Wanted};
 ghost use Rattle.vt_plan.specs.PageLists.{is_in};
-ghost use Rattle.vt_evict.specs.Views.{RecencyView, IsTable, is_loose, touched, first_view};
+ghost use Rattle.vt_plan.specs.Views.{RecencyView, IsTable, is_loose, touched, first_view};
 ghost use Rattle.vt_evict.specs.Batches.{IsLawful, IsSettled, read_entries};
-ghost use Rattle.vt_evict.specs.Plans.{candidates};
+ghost use Rattle.vt_plan.specs.Plans.{candidates};
 ghost use Rattle.vt_evict.specs.Stamps.{Stamps, no_stamps, Pass, AreAfter, AreBefore, IsAbove, IsByStamps};
 
 /// At first no page has a stamp, and the order is empty.

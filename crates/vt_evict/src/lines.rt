@@ -4,7 +4,7 @@ ghost use Rattle.std.specs.Prelude.{◌≡◌, ◌+◌, ◌<◌, false, not, [],
 ghost use Rattle.std.specs.List.{filter, All};
 ghost use Rattle.vt_plan.specs.Pages.{IsWithinLimits, pages_of, ancestors_of};
 ghost use Rattle.vt_plan.specs.Wants.{pages_wanted};
-ghost use Rattle.vt_evict.specs.Orders.{line_pages};
+ghost use Rattle.vt_plan.specs.Orders.{line_pages};
 ghost use Rattle.vt_plan.specs.PageLists.{is_in};
 ghost use Rattle.vt_evict.specs.Kept.{IsWalk, IsClosed};
 

@@ -3,9 +3,9 @@
 ghost use Rattle.std.specs.Prelude.{◌≡◌, ℕ, ◌-◌, ◌^◌, ◌<◌, true, false, OnOk, OnErr, not, nat_eq, [], ◌∷◌, length, slice_index};
 ghost use Rattle.std.specs.List.{filter};
 ghost use Rattle.std.specs.Map.{keys_of};
-ghost use Rattle.vt_evict.specs.Orders.{promoted_if, put_first as placed_first};
+ghost use Rattle.vt_plan.specs.Orders.{promoted_if, put_first as placed_first};
 ghost use Rattle.vt_plan.specs.PageLists.{is_in};
-ghost use Rattle.vt_evict.specs.Views.{is_loose_below};
+ghost use Rattle.vt_plan.specs.Views.{is_loose_below};
 ghost use Rattle.vt_evict.specs.Kept.{IsWalk};
 
 use crate::lines::Walk;

@@ -5,10 +5,10 @@ ghost use Rattle.std.specs.List.{All, range_with_len};
 ghost use Rattle.vt_plan.specs.Limits.{most_frames};
 ghost use Rattle.vt_plan.specs.Pages.{pages_of};
 ghost use Rattle.vt_plan.specs.PageLists.{is_in};
-ghost use Rattle.vt_evict.specs.Views.{IsTable, first_view, free_frames, touched, pages_needed};
+ghost use Rattle.vt_plan.specs.Views.{IsTable, first_view, free_frames, touched, pages_needed};
 ghost use Rattle.vt_evict.specs.Batches.{IsLawful, IsLawfulEntry, IsSettled, read_entries};
 ghost use Rattle.vt_evict.specs.Kept.{applied, HasTaken};
-ghost use Rattle.vt_evict.specs.Plans.{plan_of, plan_by};
+ghost use Rattle.vt_plan.specs.Plans.{plan_of, plan_by};
 
 use crate::lines::{Walk, lines_of, walk_lines};
 use crate::orders::{insert, put_first, remove};
@@ -34,7 +34,7 @@ pub struct Recency {
 
 impl Model for Recency {
     ghost use Rattle.std.specs.Map.{keys_of};
-    ghost use Rattle.vt_evict.specs.Views.{RecencyView};
+    ghost use Rattle.vt_plan.specs.Views.{RecencyView};
     ghost use Rattle.vt_evict.specs.Kept.{IsKept};
 
     ghost Value = { RecencyView };

@@ -2,21 +2,20 @@
 //! asked for (Mayer 2010).
 #![tactic(auto)]
 
-ghost use Rattle.std.specs.Prelude.{◌≡◌, ℕ, ◌+◌, ◌^◌, ◌<◌, length, replicate, IfOk, slice_index};
-ghost use Rattle.vt_pages.specs.Pages.{pages_of};
-ghost use Rattle.vt_feedback.specs.Wants.{IsWants};
-
-use std::alloc::Global;
-use std::marker::Model;
-
 mod blocks;
 mod laws;
 mod ranks;
+
+ghost use Rattle.std.specs.Prelude.{◌≡◌, ℕ, ◌+◌, ◌^◌, ◌<◌, length, replicate, IfOk, slice_index};
+ghost use Rattle.vt_pages.specs.Pages.{pages_of};
+ghost use Rattle.vt_feedback.specs.Wants.{IsWants};
 
 use blocks::{BLOCK, add_blocks, clear_blocks};
 pub use laws::wants_are_one;
 use ranks::ranks_of;
 pub use ranks::{Rank, rank_at, wants_of};
+use std::alloc::Global;
+use std::marker::Model;
 pub use vt_outside::{Items, NoMemory};
 pub use vt_pages::Geometry;
 

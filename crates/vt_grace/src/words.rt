@@ -12,8 +12,7 @@ use crate::sizes::sizes_for;
 use crate::tokens::{Words, WriterSeat};
 use atomic_table::Table;
 use std::alloc::Global;
-use vt_journal::Geometry;
-use vt_outside::NoMemory;
+use vt_journal::{Geometry, NoMemory};
 
 impl Words {
     /// A table of version 0, which maps nothing, whose words are all 0, and the right to write it. The frames are at most

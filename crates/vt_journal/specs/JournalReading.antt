@@ -17,7 +17,7 @@ use Rattle.vt_journal.specs.declared.parse.JournalError.{JournalError}
 use Rattle.vt_journal.specs.declared.parse.JournalError.TheVariants.{NoMemory}
 use Rattle.vt_journal.specs.JournalText.{line_fields, changes_of, event_lines, pass_lines, passes_changes, pinned_change}
 use Rattle.vt_journal.specs.Changes.{newest, IsNext}
-use Rattle.vt_outside.specs.Lists.{ListView}
+use Rattle.vt_text.specs.Lists.{ListView}
 use Rattle.vt_journal.specs.Kept.{KeptView}
 use Rattle.vt_journal.specs.JournalFlaws.{Reading, nothing_read, AreAdmitted, after_all, IsComplete, IsNextPicture, IsFlawFrom, pinned_by}
 use Rattle.vt_journal.specs.Passes.{pass_of}

@@ -1,3 +1,4 @@
+pub use Rattle.vt_pages.specs.Depths
 pub use Rattle.vt_pages.specs.Laws
 pub use Rattle.vt_pages.specs.Lookups as PagesLookups
 pub use Rattle.vt_pages.specs.Pages

@@ -1,6 +1,6 @@
 //! What a journal is made of: changes of a page table, and what a pass of a walk tells.
 
-use vt_outside::Items;
+use vt_text::Items;
 
 /// A change of the page table, which makes its next version.
 #[derive(Clone, Copy, Debug, PartialEq, Eq)]

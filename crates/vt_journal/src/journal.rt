@@ -7,7 +7,7 @@ ghost use Rattle.vt_journal.specs.Changes.{IsNext, AreInTurn, newest};
 use crate::changes::Change;
 use std::alloc::Global;
 use std::marker::Model;
-use vt_outside::{Items, NoMemory};
+use vt_text::{Items, NoMemory};
 
 /// The versions of a page table: version 0 maps nothing, and each change makes the next version. Contracts see the
 /// changes, of which the last made the newest version, and the room for more.

@@ -13,7 +13,7 @@ use crate::limits::MOST_VERSIONS;
 use crate::table::PageTable;
 use std::alloc::Global;
 use std::marker::Model;
-use vt_outside::NoMemory;
+use vt_text::NoMemory;
 
 /// A journal and the page table of its newest version. Contracts see the changes and how many pages there are.
 #[derive(Drop)]

@@ -32,5 +32,6 @@ pub use laws::{
 pub use parse::JournalError;
 pub use passes::PassText;
 pub use text::{JournalText, parse_journal};
-pub use vt_pages::Geometry;
+pub use vt_pages::{Geometry, texel_length};
+pub use vt_text::{NoMemory, word_in};
 pub use write::{add_pass, write_head, write_pass};

@@ -17,8 +17,8 @@ use crate::limits::{MOST_FRAMES, MOST_SAMPLERS};
 use crate::lines::Line;
 use std::alloc::AllocError;
 use thiserror::Error;
-use vt_outside::NoMemory;
 use vt_pages::Geometry;
+use vt_text::NoMemory;
 
 /// Why a text was not read as a journal. Lines count from 1.
 #[derive(Clone, Copy, Debug, PartialEq, Eq, Error)]

@@ -11,7 +11,7 @@ use crate::changes::Change;
 use crate::limits::MOST_FRAMES;
 use std::alloc::Global;
 use std::marker::Model;
-use vt_outside::NoMemory;
+use vt_text::NoMemory;
 
 /// A page table: for each page the number of its frame, and for each frame the number of its page, each one more than
 /// what it gives, and 0 for none. Contracts see the numbers of the pages.

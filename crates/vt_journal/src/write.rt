@@ -16,9 +16,8 @@ use crate::journal::Journal;
 use crate::lines::Line;
 use crate::passes::PassText;
 use std::alloc::Global;
-use vt_outside::NoMemory;
 use vt_pages::Geometry;
-use vt_text::put_number;
+use vt_text::{NoMemory, put_number};
 
 // Appends bytes.
 fn add(text: &mut Vec<u8>, bytes: &[u8]) -> Result<(), NoMemory>

@@ -10,3 +10,8 @@ pub use Rattle.vt_tiles.specs.StoreViews
 pub mod Readings
 pub mod Loads
 pub mod Loaders
+pub mod Results
+pub mod Together
+pub mod QueuedLoaders
+pub mod Rounds
+pub mod Streamed

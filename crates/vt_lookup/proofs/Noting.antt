@@ -1,7 +1,7 @@
 -- What a pass noted stays noted.
 use Rattle.std.proofs.Common.{◌≡◌, ℕ, suc, List, ◌∷◌, refl, sym, ap, subst, arith}
 use Rattle.std.specs.Prelude.{Contains}
-use Rattle.vt_draw.specs.Lookups.{Note, EntryNote, WordNote}
+use Rattle.vt_pictures.specs.DrawLookups.{Note, EntryNote, WordNote}
 use Rattle.vt_grace.specs.declared.views.PassView.{PassView}
 use Rattle.vt_grace.specs.PassViews.{noting, wording}
 use Rattle.vt_lookup.specs.Notes.{IsNotedIn, HasNotedMore}

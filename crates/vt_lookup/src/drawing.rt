@@ -1,19 +1,18 @@
 //! The drawing of a row under a hold.
 
 ghost use Rattle.std.specs.Prelude.{◌≡◌, ℕ, ◌+◌, ◌*◌, ◌<◌, ◌≤◌, ◌^◌, true, [], ◌∷◌, length, slice_index};
-ghost use Rattle.vt_draw.specs.Depths.{IsDepth, texel_length};
+ghost use Rattle.vt_pictures.specs.Depths.{IsDepth, texel_length};
 ghost use Rattle.vt_pages.specs.Pages.{pages_of};
-ghost use Rattle.vt_draw.specs.Shots.{shot_row};
+ghost use Rattle.vt_pictures.specs.Shots.{shot_row};
 ghost use Rattle.vt_pictures.specs.Evidence.{AreShown, AreRaised};
 ghost use Rattle.vt_grace.specs.PassViews.{NoneAbove};
 ghost use Rattle.vt_grace.specs.Tokens.{IsPassOf, IsHeldOf};
 ghost use Rattle.vt_lookup.specs.Notes.{Fits, IsNotedIn, HasNotedMore, HasHeldMore};
 
 use crate::lookup::HeldLookup;
-use vt_draw::Shot;
 use vt_grace::{Held, Pass, Words};
 use vt_outside::{Gate, Point};
-use vt_pictures::Filter;
+use vt_pictures::{Filter, Shot};
 
 // Draws row y of a picture in the version that is held.
 fn draw_under<P: Filter>(

@@ -2,15 +2,15 @@
 
 ghost use Rattle.std.specs.Prelude.{◌≡◌, ◌<◌, true};
 ghost use Rattle.vt_pages.specs.Pages.{pages_of};
-ghost use Rattle.vt_draw.specs.Lookups.{IsFinest};
+ghost use Rattle.vt_pictures.specs.DrawLookups.{IsFinest};
 ghost use Rattle.vt_grace.specs.Places.{texel_word};
 ghost use Rattle.vt_grace.specs.Tokens.{IsHeldOf};
 ghost use Rattle.vt_lookup.specs.Notes.{Fits, IsNotedIn, HasNotedMore, LookupValue, LookupBase, base_of};
 
 use std::marker::Model;
-use vt_draw::{Found, Lookup, place_of};
 use vt_grace::{Held, Words};
 use vt_pages::{Geometry, PageName};
+use vt_pictures::{Found, Lookup, place_of};
 
 /// A look-up of pages in the version that is held. It says what was noted under the hold, and takes no memory.
 #[derive(Drop)]

@@ -7,12 +7,12 @@ use Rattle.std.proofs.lemmas.List.{append-nil}
 use Rattle.std.proofs.lemmas.List.Sorted.{list_any-IsPermutation}
 use Rattle.std.proofs.lemmas.Option.{slice_get_within, get_or_from_slice_get, none-some, same_Some}
 use Rattle.vt_pages.specs.Shape.{Shape}
-use Rattle.vt_workers.specs.JournalTypes.changes.Change.{Change}
-use Rattle.vt_workers.specs.JournalTypes.changes.Event.{Event}
-use Rattle.vt_workers.specs.Changes.{Table, changed, newest, IsFree}
-use Rattle.vt_workers.specs.JournalText.{changes_of}
-use Rattle.vt_workers.proofs.Versions.{newest-more}
-use Rattle.vt_workers.proofs.EventLines.{changes_of-append}
+use Rattle.vt_pictures.specs.JournalTypes.changes.Change.{Change}
+use Rattle.vt_pictures.specs.JournalTypes.changes.Event.{Event}
+use Rattle.vt_pictures.specs.Changes.{Table, changed, newest, IsFree}
+use Rattle.vt_pictures.specs.JournalText.{changes_of}
+use Rattle.vt_pictures.proofs.Versions.{newest-more}
+use Rattle.vt_pictures.proofs.EventLines.{changes_of-append}
 use Rattle.vt_evict.specs.PlanTypes.batches.Planned.{Planned}
 use Rattle.vt_machine.specs.Outcomes.{IsEntryFor, IsBatchFor, IsVictimOf, group_if, group_at, pass_events, IsOutcome}
 

@@ -9,9 +9,13 @@ pub use Rattle.vt_pages.proofs.Counts
 pub use Rattle.vt_pages.proofs.Lines
 pub use Rattle.vt_pages.proofs.Parents
 pub use Rattle.vt_pages.proofs.Steps
-pub use Rattle.vt_workers.proofs.Contents
-pub use Rattle.vt_workers.proofs.Lent
+pub use Rattle.vt_pictures.proofs.Contents
+pub use Rattle.vt_pictures.proofs.EventLines
+pub use Rattle.vt_pictures.proofs.NearestNotes
+pub use Rattle.vt_pictures.proofs.Versions
 pub mod Settled
 pub mod Streaming
 pub mod OneRead
 pub mod AnyOrder
+pub mod Halves
+pub mod Lent

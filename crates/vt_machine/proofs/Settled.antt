@@ -5,19 +5,19 @@ use Rattle.std.specs.List.{concat}
 use Rattle.std.proofs.lemmas.List.{append-nil}
 use Rattle.std.proofs.lemmas.Option.{slice_get-get_or}
 use Rattle.vt_pages.specs.Pages.{IsWithinLimits}
-use Rattle.vt_workers.specs.Paths.{PathView}
-use Rattle.vt_workers.specs.JournalTypes.changes.Change.{Change}
-use Rattle.vt_workers.specs.JournalTypes.changes.Event.{Event}
-use Rattle.vt_workers.specs.JournalTypes.changes.RowLine.{RowLine}
-use Rattle.vt_workers.specs.Changes.{Table, at, newest}
-use Rattle.vt_workers.specs.JournalText.{changes_of}
+use Rattle.vt_pictures.specs.Paths.{PathView}
+use Rattle.vt_pictures.specs.JournalTypes.changes.Change.{Change}
+use Rattle.vt_pictures.specs.JournalTypes.changes.Event.{Event}
+use Rattle.vt_pictures.specs.JournalTypes.changes.RowLine.{RowLine}
+use Rattle.vt_pictures.specs.Changes.{Table, at, newest}
+use Rattle.vt_pictures.specs.JournalText.{changes_of}
 use Rattle.vt_tiles.specs.StoreViews.{IsStore}
 use Rattle.vt_evict.specs.PlanTypes.batches.Planned.{Planned}
 use Rattle.vt_machine.specs.declared.crew.PassReport.{PassReport}
-use Rattle.vt_workers.specs.Scenes.{Scene}
-use Rattle.vt_workers.specs.Jobs.{Job}
+use Rattle.vt_pictures.specs.Scenes.{Scene}
+use Rattle.vt_machine.specs.Jobs.{Job}
 use Rattle.vt_machine.specs.Outcomes.{IsOutcome, pass_events}
-use Rattle.vt_workers.specs.Replays.{HasPixels, IsFull, IsPictureOf}
+use Rattle.vt_pictures.specs.Replays.{HasPixels, IsFull, IsPictureOf}
 use Rattle.vt_machine.specs.Drawings.{Drawing}
 use Rattle.vt_machine.specs.Machines.{Setup, MachineState}
 use Rattle.vt_machine.specs.Passes.{IsJobFor, MapsNeeded, Ran}

@@ -7,13 +7,13 @@ use Rattle.std.proofs.lemmas.List.FromFn.{map-range_with_len_more}
 use Rattle.std.proofs.lemmas.Grind.{flat_map-append}
 use Rattle.std.proofs.lemmas.Option.{none-some, same_Some}
 use Rattle.vt_pages.specs.Shape.{Shape}
-use Rattle.vt_workers.specs.JournalTypes.changes.Change.{Change}
-use Rattle.vt_workers.specs.JournalTypes.changes.Change.TheVariants.{Map, Unmap}
-use Rattle.vt_workers.specs.JournalTypes.changes.Event.{Event}
-use Rattle.vt_workers.specs.JournalTypes.changes.Event.TheVariants.{Changed}
-use Rattle.vt_workers.specs.Changes.{Table, changed, newest, IsFree}
-use Rattle.vt_workers.specs.JournalText.{changes_of}
-use Rattle.vt_workers.proofs.Versions.{newest-more, entry-same, entry-other, same_page, mapped_after_map, mapped_after_unmap}
+use Rattle.vt_pictures.specs.JournalTypes.changes.Change.{Change}
+use Rattle.vt_pictures.specs.JournalTypes.changes.Change.TheVariants.{Map, Unmap}
+use Rattle.vt_pictures.specs.JournalTypes.changes.Event.{Event}
+use Rattle.vt_pictures.specs.JournalTypes.changes.Event.TheVariants.{Changed}
+use Rattle.vt_pictures.specs.Changes.{Table, changed, newest, IsFree}
+use Rattle.vt_pictures.specs.JournalText.{changes_of}
+use Rattle.vt_pictures.proofs.Versions.{newest-more, entry-same, entry-other, same_page, mapped_after_map, mapped_after_unmap}
 use Rattle.vt_evict.specs.PlanTypes.batches.Planned.{Planned}
 use Rattle.vt_machine.specs.Outcomes.{IsEntryFor, IsVictimOf, victim_events, group_of, group_if, group_at, pass_events}
 

@@ -2,12 +2,12 @@
 use Rattle.std.specs.Prelude.{ℕ, Bool, true, List}
 use Rattle.vt_tiles.specs.Texels.{Source}
 use Rattle.vt_pages.specs.Shape.{Shape}
-use Rattle.vt_workers.specs.Rows.{RowView}
-use Rattle.vt_workers.specs.Changes.{Table}
+use Rattle.vt_pictures.specs.Rows.{RowView}
+use Rattle.vt_pictures.specs.Changes.{Table}
 use Rattle.vt_tiles.specs.Format.{stored}
-use Rattle.vt_workers.specs.Scenes.{Scene}
-use Rattle.vt_workers.specs.PicturesTypes.filters.Filter.{Ghosts as FilterMeanings}
-use Rattle.vt_workers.specs.FilterLaws.{picture_wants}
+use Rattle.vt_pictures.specs.Scenes.{Scene}
+use Rattle.vt_pictures.specs.declared.filters.Filter.{Ghosts as FilterMeanings}
+use Rattle.vt_pictures.specs.FilterLaws.{picture_wants}
 
 -- what belongs to a kind of machines: whether row y is always drawn by sampler y modulo their number; how many texels a picture needs of each
 -- page; and of a store's bytes the bytes of each pixel of a picture, under a page table and without one

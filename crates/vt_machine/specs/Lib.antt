@@ -8,15 +8,19 @@ pub use Rattle.vt_outside.specs.Files
 pub use Rattle.vt_pages.specs.Lookups
 pub use Rattle.vt_pages.specs.Pages
 pub use Rattle.vt_pages.specs.Shape
+pub use Rattle.vt_pictures.specs.Changes
+pub use Rattle.vt_pictures.specs.FilterLaws
+pub use Rattle.vt_pictures.specs.Following
+pub use Rattle.vt_pictures.specs.JournalText
+pub use Rattle.vt_pictures.specs.JournalTypes
+pub use Rattle.vt_pictures.specs.NearestPlain
+pub use Rattle.vt_pictures.specs.Paths
+pub use Rattle.vt_pictures.specs.Replays
+pub use Rattle.vt_pictures.specs.Rows
+pub use Rattle.vt_pictures.specs.Scenes
+pub use Rattle.vt_pictures.specs.Shots
+pub use Rattle.vt_pictures.specs.declared as PicturesTypes
 pub use Rattle.vt_tiles.specs.Format
-pub use Rattle.vt_workers.specs.All
-pub use Rattle.vt_workers.specs.Changes
-pub use Rattle.vt_workers.specs.Jobs
-pub use Rattle.vt_workers.specs.JournalText
-pub use Rattle.vt_workers.specs.JournalTypes
-pub use Rattle.vt_workers.specs.Paths
-pub use Rattle.vt_workers.specs.Replays
-pub use Rattle.vt_workers.specs.Scenes
 pub mod Crews
 pub mod Outcomes
 pub mod RowOrders
@@ -25,3 +29,5 @@ pub mod Drawings
 pub mod Nearest
 pub mod Machines
 pub mod Passes
+pub mod Jobs
+pub mod All

@@ -2,8 +2,8 @@
 use Rattle.std.specs.Prelude.{◌≡◌, ℕ, Option, None, List, [], ◌∷◌, map, length, All}
 use Rattle.vt_outside.specs.declared.outside.File.{Ghosts as FileMeanings}
 use Rattle.vt_pages.specs.Shape.{Shape}
-use Rattle.vt_workers.specs.Paths.{PathView}
-use Rattle.vt_workers.specs.JournalTypes.changes.Change.{Change}
+use Rattle.vt_pictures.specs.Paths.{PathView}
+use Rattle.vt_pictures.specs.JournalTypes.changes.Change.{Change}
 use Rattle.vt_tiles.specs.StoreViews.{StoreView}
 use Rattle.vt_machine.specs.declared.crew.Crew.{Crew}
 use Rattle.vt_machine.specs.Requests.{FileState}

@@ -1,6 +1,6 @@
 -- How a machine draws whose pixels are each one texel, the nearest.
-use Rattle.vt_workers.specs.Shots.{pixels_wanting}
-use Rattle.vt_workers.specs.Replays.{pixel_under, plain_pixel}
+use Rattle.vt_pictures.specs.Shots.{pixels_wanting}
+use Rattle.vt_pictures.specs.Replays.{pixel_under, plain_pixel}
 use Rattle.vt_machine.specs.Drawings.{Drawing, drawing_by}
 
 -- rows are dealt to the samplers, and each pixel is the texel that serves it

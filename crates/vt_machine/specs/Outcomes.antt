@@ -3,10 +3,10 @@ use Rattle.std.specs.Prelude.{◌≡◌, ◌≢◌, ℕ, ◌<◌, Bool, true, fa
 use Rattle.std.specs.List.{range_with_len}
 use Rattle.vt_pages.specs.Shape.{Shape}
 use Rattle.vt_pages.specs.Pages.{pages_of, root_of}
-use Rattle.vt_workers.specs.JournalTypes.changes.Change.TheVariants.{Map, Unmap}
-use Rattle.vt_workers.specs.JournalTypes.changes.Event.{Event}
-use Rattle.vt_workers.specs.JournalTypes.changes.Event.TheVariants.{Changed, Lost}
-use Rattle.vt_workers.specs.Changes.{Table, IsFree}
+use Rattle.vt_pictures.specs.JournalTypes.changes.Change.TheVariants.{Map, Unmap}
+use Rattle.vt_pictures.specs.JournalTypes.changes.Event.{Event}
+use Rattle.vt_pictures.specs.JournalTypes.changes.Event.TheVariants.{Changed, Lost}
+use Rattle.vt_pictures.specs.Changes.{Table, IsFree}
 use Rattle.vt_evict.specs.PlanTypes.batches.Planned.{Planned}
 
 -- a page is mapped to this frame, and is not the root (Mayer 2010)

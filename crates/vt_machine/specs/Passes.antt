@@ -4,21 +4,21 @@ use Rattle.vt_outside.specs.Files.{IsPiece}
 use Rattle.vt_outside.specs.declared.answers.NoMemory.{NoMemory}
 use Rattle.vt_pages.specs.Shape.{Shape}
 use Rattle.vt_pages.specs.Pages.{pages_of, root_of}
-use Rattle.vt_workers.specs.Paths.{PathView}
-use Rattle.vt_workers.specs.JournalTypes.changes.Change.TheVariants.{Map}
-use Rattle.vt_workers.specs.JournalTypes.changes.RowLine.{RowLine}
-use Rattle.vt_workers.specs.Changes.{Table, newest, IsNext}
-use Rattle.vt_workers.specs.JournalText.{changes_of}
+use Rattle.vt_pictures.specs.Paths.{PathView}
+use Rattle.vt_pictures.specs.JournalTypes.changes.Change.TheVariants.{Map}
+use Rattle.vt_pictures.specs.JournalTypes.changes.RowLine.{RowLine}
+use Rattle.vt_pictures.specs.Changes.{Table, newest, IsNext}
+use Rattle.vt_pictures.specs.JournalText.{changes_of}
 use Rattle.vt_evict.specs.PlanTypes.batches.Planned.{Planned}
 use Rattle.vt_machine.specs.declared.crew.PassReport.{PassReport}
-use Rattle.vt_workers.specs.Jobs.{Job}
+use Rattle.vt_machine.specs.Jobs.{Job}
 use Rattle.vt_machine.specs.Crews.{last_start}
 use Rattle.vt_tiles.specs.Format.{tile_length, tile_start}
 use Rattle.vt_machine.specs.Drawings.{Drawing}
 use Rattle.vt_machine.specs.Outcomes.{IsBatchFor, IsOutcome}
 use Rattle.vt_machine.specs.RowOrders.{AreRowsInOrder}
 use Rattle.vt_machine.specs.Requests.{FileState, AreReadFor, ArePartlyReadFor}
-use Rattle.vt_workers.specs.Replays.{IsFull, AreReplayed}
+use Rattle.vt_pictures.specs.Replays.{IsFull, AreReplayed}
 use Rattle.vt_machine.specs.Machines.{Setup, MachineState}
 
 -- the newest version of the journal maps the root

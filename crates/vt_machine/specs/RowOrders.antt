@@ -1,7 +1,7 @@
 -- The order of the rows of a pass: which sampler draws which row, and that the versions of one sampler never fall.
 use Rattle.std.specs.Prelude.{◌≡◌, ℕ, ◌%◌, ◌<◌, Bool, IsTrue, Some, List, slice_get}
-use Rattle.vt_workers.specs.JournalTypes.changes.RowLine.{RowLine}
-use Rattle.vt_workers.specs.Following.{AreRowsOf}
+use Rattle.vt_pictures.specs.JournalTypes.changes.RowLine.{RowLine}
+use Rattle.vt_pictures.specs.Following.{AreRowsOf}
 
 -- row y was drawn by one of so many samplers, and where rows are dealt by the one that it is dealt to
 pub record IsDrawnBy (dealt : Bool) (samplers y sampler : ℕ) : Type 0 where

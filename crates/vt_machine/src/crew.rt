@@ -1,7 +1,7 @@
 //! The workers of a pass, and what a pass tells.
 
 use vt_evict::Losses;
-use vt_workers::{Events, RowLines};
+use vt_pictures::{Events, RowLines};
 
 /// How many workers draw and load, and how many pages a pass loads at most.
 #[derive(Clone, Copy)]

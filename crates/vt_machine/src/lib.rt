@@ -1,11 +1,16 @@
 //! One pass of a walk: a batch of pages is streamed into the page table while a picture is drawn from it.
 //!
-//! `PassMachine` is what streams and draws, as its callers see it.
+//! `PassMachine` is what streams and draws, as its callers see it; a `Task` is what one worker of a pass does, and `work_together` has
+//! loaders, samplers and a streamer at work at once.
 #![tactic(auto)]
 
 mod crew;
 mod laws;
 mod machine;
+mod task;
+mod threads;
+mod turns;
+mod work;
 
 pub use crew::{Crew, PassReport};
 pub use laws::{
@@ -13,5 +18,8 @@ pub use laws::{
     settled_pass_is_plain,
 };
 pub use machine::PassMachine;
-pub use vt_evict::{Losses, Planned};
-pub use vt_workers::{Task, work_together};
+pub use task::Task;
+pub use turns::sampler_of;
+pub use vt_evict::{Batch, Counts as FeedbackCounts, Losses, Planned};
+pub use vt_pictures::{Events, Journal, Path, RowLines, Shot};
+pub use work::work_together;

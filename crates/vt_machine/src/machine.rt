@@ -4,30 +4,32 @@ ghost use Rattle.std.specs.Prelude.{◌≡◌, ℕ, ◌<◌, Bool, List, [], len
 ghost use Rattle.std.specs.List.{concat};
 ghost use Rattle.vt_tiles.specs.Depths.{IsDepth};
 ghost use Rattle.vt_pages.specs.Pages.{IsWithinLimits};
-ghost use Rattle.vt_workers.specs.Paths.{PathView};
-ghost use Rattle.vt_workers.specs.Changes.{Table};
+ghost use Rattle.vt_pictures.specs.Paths.{PathView};
+ghost use Rattle.vt_pictures.specs.Changes.{Table};
 ghost use Rattle.vt_tiles.specs.StoreViews.{IsStore};
 ghost use Rattle.vt_evict.specs.PlanTypes.batches.Planned.{Planned};
 ghost use Rattle.vt_outside.specs.declared.answers.NoMemory.{NoMemory as Refusal};
 ghost use Rattle.vt_machine.specs.declared.crew.PassReport.{PassReport as Report};
-ghost use Rattle.vt_workers.specs.Scenes.{Scene};
+ghost use Rattle.vt_pictures.specs.Scenes.{Scene};
 ghost use Rattle.vt_machine.specs.Drawings.{Drawing};
-ghost use Rattle.vt_workers.specs.Jobs.{Job, job_of};
+ghost use Rattle.vt_machine.specs.Jobs.{Job, job_of};
 ghost use Rattle.vt_machine.specs.Crews.{IsCrew, AreFrames};
 ghost use Rattle.vt_machine.specs.Machines.{MachineState, setup_of, files_of, told_by, AreStoresFor};
 ghost use Rattle.vt_machine.specs.Passes.{Begins, MayPlace, with_placed, MayPrepare, IsUntouched, IsSpent, MapsRoot, IsJobFor, Ends, MapsNeeded};
-ghost use Rattle.vt_workers.specs.All.{AllReady, AllDid};
-ghost use Rattle.vt_workers.specs.JournalTypes.changes.RowLine.{RowLine};
+ghost use Rattle.vt_machine.specs.All.{AllReady, AllDid};
+ghost use Rattle.vt_pictures.specs.JournalTypes.changes.RowLine.{RowLine};
 
 use crate::crew::{Crew, PassReport};
+use crate::task::Task;
+use crate::work::work_together;
 use std::alloc::Global;
 use std::sync::Wait;
 use std::thread::Threads;
 use vt_evict::{Batch, Counts};
 use vt_outside::{File, Gate, Items, NoMemory};
 use vt_pages::Geometry;
+use vt_pictures::{Journal, Path, Shot};
 use vt_tiles::Stores;
-use vt_workers::{Journal, Path, Shot, Task, work_together};
 
 /// A value that streams tiles of a store into frames, and draws the pictures of a path from them.
 ///

@@ -1,7 +1,7 @@
 -- The chain of a texture from level 1 on is the chain of level 1.
 use Rattle.std.proofs.Common.{◌≡◌, ℕ, zero, suc, ◌+◌, ◌-◌, ◌/◌, ◌<◌, ◌≤◌, refl, sym, ap, ◌∙◌, arith}
-use Rattle.vt_definitions.specs.Sides.{side, level_count}
-use Rattle.vt_definitions.proofs.Levels.{side_at_least, level_count_least}
+use Rattle.vt_ppm.specs.Sides.{side, level_count}
+use Rattle.vt_ppm.proofs.Levels.{side_at_least, level_count_least}
 use Rattle.vt_ppm.specs.Image.{ImageView, texel_of}
 use Rattle.vt_mip.specs.Chains.{chain, halved_word}
 use Rattle.vt_mip.specs.Levels.{IsLevel}

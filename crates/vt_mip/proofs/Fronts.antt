@@ -3,10 +3,10 @@ use Rattle.std.proofs.Common.{◌≡◌, ℕ, zero, suc, ◌+◌, ◌-◌, ◌*�
 use Rattle.std.specs.List.{slice_range}
 use Rattle.std.proofs.lemmas.List.{get_or_read, get_or_push, get_or_append_left, length-append}
 use Rattle.std.proofs.Math.Nat.{pow-succ'}
-use Rattle.vt_definitions.specs.Depths.{AreBytes}
-use Rattle.vt_definitions.specs.Limits.{most_levels}
-use Rattle.vt_definitions.specs.Sides.{side, level_count}
-use Rattle.vt_definitions.proofs.Levels.{level_count_least}
+use Rattle.vt_ppm.specs.Depths.{AreBytes}
+use Rattle.vt_ppm.specs.Limits.{most_levels}
+use Rattle.vt_ppm.specs.Sides.{side, level_count}
+use Rattle.vt_ppm.proofs.Levels.{level_count_least}
 use Rattle.vt_ppm.specs.Image.{ImageView, IsLawfulImage}
 use Rattle.vt_mip.specs.Levels.{IsLevel, GainsHalf, IsChainFront, IsLastFitting, IsWholeChain, level_at, blank}
 use Rattle.vt_mip.specs.Chains.{ChainView, chain_levels, chain_width, chain_height, chain_texel, IsTexelRow, IsTexelRaster}

@@ -3,7 +3,7 @@ use Rattle.std.proofs.Common.{◌≡◌, ℕ, inl, inr, ◌+◌, ◌-◌, ◌*�
 use Rattle.std.proofs.lemmas.Bool.{cases_lt}
 use Rattle.std.proofs.lemmas.List.{take-append-drop}
 use Rattle.std.proofs.lemmas.Nat.{mul-add-lt}
-use Rattle.vt_definitions.specs.Depths.{sample_at, texel_length}
+use Rattle.vt_ppm.specs.Depths.{sample_at, texel_length}
 use Rattle.vt_box_filter.specs.Boxes.{clamped}
 use Rattle.vt_mip.specs.Chains.{halved}
 use Rattle.vt_mip.specs.Halves.{AreHalfSizes, IsHalvedRaster, raster_sample}

@@ -3,7 +3,7 @@ use Rattle.std.proofs.Common.{◌≡◌, ℕ, inl, inr, ◌+◌, ◌-◌, ◌*�
 use Rattle.std.proofs.lemmas.Nat.{mul-add-lt, mul-le}
 use Rattle.std.proofs.Math.Nat.{mul-le-mul_left}
 use borrow.Rule.Slice.PartMut.{put_mid}
-use Rattle.vt_definitions.specs.Depths.{IsDepth, sample_at, texel_length}
+use Rattle.vt_ppm.specs.Depths.{IsDepth, sample_at, texel_length}
 use Rattle.vt_box_filter.specs.Boxes.{clamped}
 use Rattle.vt_mip.specs.Chains.{halved}
 use Rattle.vt_box_filter.specs.HalvedRows.{IsHalvedRow}

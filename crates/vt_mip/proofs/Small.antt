@@ -1,9 +1,9 @@
 -- The words of a chain are small.
 use Rattle.std.proofs.Common.{ℕ, zero, suc, inl, inr, ◌+◌, ◌*◌, ◌%◌, ◌^◌, ◌<◌, arith}
-use Rattle.vt_definitions.specs.Depths.{IsDepth, sample_base, red_of, green_of, blue_of}
-use Rattle.vt_definitions.specs.Sides.{side}
-use Rattle.vt_definitions.proofs.Words.{word_small}
-use Rattle.vt_definitions.proofs.TexelWords.{words_small}
+use Rattle.vt_ppm.specs.Depths.{IsDepth, sample_base, red_of, green_of, blue_of}
+use Rattle.vt_ppm.specs.Sides.{side}
+use Rattle.vt_ppm.proofs.Words.{word_small}
+use Rattle.vt_ppm.proofs.TexelWords.{words_small}
 use Rattle.vt_ppm.specs.Image.{texel_of}
 use Rattle.vt_mip.specs.Chains.{halved, halved_word, chain}
 use Rattle.vt_mip.specs.Laws.{ChainWordsAreSmall}

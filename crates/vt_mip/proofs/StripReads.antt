@@ -2,7 +2,7 @@
 use Rattle.std.proofs.Common.{◌≡◌, ℕ, zero, suc, ◌+◌, ◌-◌, ◌*◌, min, Bool, Result, Ok, Err, is_err, OnOk, OnErr, ◌^◌, ◌<◌, ◌≤◌, Option, Some, None, true, false, List, [], ◌∷◌, ◌++◌, refl, sym, ap, ◌∙◌, subst, arith, append_assoc}
 use Rattle.std.proofs.Math.Nat.{pow-succ'}
 use Rattle.std.specs.Prelude.{option_map}
-use Rattle.vt_definitions.specs.Sides.{side}
+use Rattle.vt_ppm.specs.Sides.{side}
 use Rattle.vt_ppm.specs.OutsideTypes.place.Place.{Place}
 use Rattle.vt_ppm.specs.declared.header.Header.{Header}
 use Rattle.vt_ppm.specs.Strips.{RowsAsked, row_length, row_start}

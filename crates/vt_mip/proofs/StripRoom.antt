@@ -1,9 +1,9 @@
 -- The numbers of levels, and the room for their rows.
 use Rattle.std.proofs.Common.{◌≡◌, ℕ, zero, suc, ◌+◌, ◌-◌, ◌*◌, ◌/◌, ◌<◌, ◌≤◌, ◌⊎◌, inl, inr, refl, sym, ap, ◌∙◌, subst, arith}
 use Rattle.std.proofs.Math.Nat.{mul-le-mul_left}
-use Rattle.vt_definitions.specs.Depths.{IsDepth, texel_length}
-use Rattle.vt_definitions.specs.Sides.{side, level_count}
-use Rattle.vt_definitions.proofs.Levels.{level_count_least}
+use Rattle.vt_ppm.specs.Depths.{IsDepth, texel_length}
+use Rattle.vt_ppm.specs.Sides.{side, level_count}
+use Rattle.vt_ppm.proofs.Levels.{level_count_least}
 use Rattle.vt_ppm.specs.declared.header.Header.{Header}
 use Rattle.vt_ppm.specs.Format.{depth_of}
 use Rattle.vt_mip.specs.StripChains.{IsBelow, StripChainView, room_length, level_row_length}

@@ -1,10 +1,10 @@
 -- The rows of a level that are made of rows of the texture: their words.
 use Rattle.std.proofs.Common.{◌≡◌, ℕ, suc, ◌+◌, ◌*◌, ◌/◌, ◌<◌, ◌≤◌, List, Option, Some, None, Ok, Err, length, take, drop, refl, sym, ap, ◌∙◌, subst, arith}
 use Rattle.std.specs.Prelude.{IfSome, OnOk, Result}
-use Rattle.vt_definitions.specs.Depths.{IsDepth, AreBytes, sample_at, sample_base, texel_length, word_at, word_bytes, red_of, green_of, blue_of}
-use Rattle.vt_definitions.specs.Sides.{side}
-use Rattle.vt_definitions.proofs.Levels.{side_at_least}
-use Rattle.vt_definitions.proofs.TexelWords.{sample_small, texel_words}
+use Rattle.vt_ppm.specs.Depths.{IsDepth, AreBytes, sample_at, sample_base, texel_length, word_at, word_bytes, red_of, green_of, blue_of}
+use Rattle.vt_ppm.specs.Sides.{side}
+use Rattle.vt_ppm.proofs.Levels.{side_at_least}
+use Rattle.vt_ppm.proofs.TexelWords.{sample_small, texel_words}
 use Rattle.vt_ppm.specs.declared.header.Header.{Header}
 use Rattle.vt_ppm.specs.Format.{depth_of}
 use Rattle.vt_ppm.specs.Image.{texel_of}

@@ -2,9 +2,9 @@
 use Rattle.std.proofs.Common.{◌≡◌, ℕ, suc, inl, inr, ◌+◌, ◌*◌, ◌/◌, ◌<◌, ◌≤◌, length, refl, sym, ap, ◌∙◌, arith}
 use Rattle.std.specs.Prelude.{take, drop}
 use Rattle.std.proofs.lemmas.List.{length-take-le, length-drop}
-use Rattle.vt_definitions.specs.Sides.{side}
-use Rattle.vt_definitions.specs.Depths.{IsDepth, AreBytes, sample_base, sample_at, word_of, red_of, green_of, blue_of, word_bytes}
-use Rattle.vt_definitions.proofs.TexelWords.{sample_small, texel_words}
+use Rattle.vt_ppm.specs.Sides.{side}
+use Rattle.vt_ppm.specs.Depths.{IsDepth, AreBytes, sample_base, sample_at, word_of, red_of, green_of, blue_of, word_bytes}
+use Rattle.vt_ppm.proofs.TexelWords.{sample_small, texel_words}
 use Rattle.vt_ppm.specs.Image.{ImageView, IsLawfulImage, texel_of}
 use Rattle.vt_box_filter.specs.Boxes.{clamped}
 use Rattle.vt_mip.specs.Chains.{halved, halved_word, chain, IsTexelRow, IsTexelRaster}

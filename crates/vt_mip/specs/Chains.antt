@@ -1,8 +1,8 @@
 -- The box-filtered mip chain, channel by channel: a texel is (a+b+c+d+2) div 4 of four texels with clamped coordinates.
 use Rattle.std.specs.Prelude.{◌≡◌, ℕ, zero, suc, ◌+◌, ◌*◌, ◌<◌, List, length}
-use Rattle.vt_definitions.specs.Sides.{side, level_count}
-use Rattle.vt_definitions.specs.Depths.{texel_length, word_of, red_of, green_of, blue_of, word_bytes, texel_bytes}
-use Rattle.vt_definitions.specs.Texels.{Source}
+use Rattle.vt_ppm.specs.Sides.{side, level_count}
+use Rattle.vt_ppm.specs.Depths.{texel_length, word_of, red_of, green_of, blue_of, word_bytes, texel_bytes}
+use Rattle.vt_ppm.specs.Texels.{Source}
 use Rattle.vt_ppm.specs.Image.{ImageView, texel_of}
 use Rattle.vt_box_filter.specs.Boxes.{box, clamped}
 

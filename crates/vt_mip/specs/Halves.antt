@@ -1,7 +1,7 @@
 -- The samples of rasters and images that are halves of others, at a depth d.
 use Rattle.std.specs.Prelude.{◌≡◌, ℕ, ◌+◌, ◌*◌, ◌/◌, ◌<◌, ◌≤◌, List}
-use Rattle.vt_definitions.specs.Depths.{IsDepth, texel_length}
-use Rattle.vt_definitions.specs.Limits.{most_tiled_side}
+use Rattle.vt_ppm.specs.Depths.{IsDepth, texel_length}
+use Rattle.vt_ppm.specs.Limits.{most_tiled_side}
 use Rattle.vt_ppm.specs.Image.{ImageView}
 use Rattle.vt_box_filter.specs.HalvedRows.{row_sample}
 use Rattle.vt_mip.specs.Chains.{halved}

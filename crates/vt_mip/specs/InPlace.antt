@@ -1,7 +1,7 @@
 -- An image that is halved in its own memory.
 use Rattle.std.specs.Prelude.{◌≡◌, ℕ, ◌+◌, ◌*◌, ◌/◌, ◌≤◌, List, length, drop}
-use Rattle.vt_definitions.specs.Depths.{IsDepth, texel_length}
-use Rattle.vt_definitions.specs.Limits.{most_tiled_side}
+use Rattle.vt_ppm.specs.Depths.{IsDepth, texel_length}
+use Rattle.vt_ppm.specs.Limits.{most_tiled_side}
 use Rattle.vt_ppm.specs.Image.{ImageView, IsLawfulImage}
 use Rattle.vt_mip.specs.Halves.{IsHalvedRaster}
 use Rattle.vt_mip.specs.TakenRows.{HalvingView}

@@ -1,7 +1,7 @@
 -- The laws of mip chains: their words have the bytes of their depth, and from level 1 on a chain is that of level 1.
 use Rattle.std.specs.Prelude.{◌≡◌, ℕ, suc, ◌+◌, ◌^◌, ◌*◌, ◌<◌, ◌≤◌}
-use Rattle.vt_definitions.specs.Depths.{IsDepth, AreBytes}
-use Rattle.vt_definitions.specs.Sides.{side, level_count}
+use Rattle.vt_ppm.specs.Depths.{IsDepth, AreBytes}
+use Rattle.vt_ppm.specs.Sides.{side, level_count}
 use Rattle.vt_ppm.specs.Image.{ImageView, texel_of}
 use Rattle.vt_mip.specs.Chains.{chain}
 use Rattle.vt_mip.specs.Levels.{IsLevel}

@@ -1,8 +1,8 @@
 -- The levels of a chain as a list of images.
 use Rattle.std.specs.Prelude.{◌≡◌, ℕ, ◌+◌, ◌-◌, ◌<◌, ◌≤◌, List, [], ◌∷◌, ◌++◌, length, slice_index_or}
-use Rattle.vt_definitions.specs.Depths.{AreBytes}
-use Rattle.vt_definitions.specs.Limits.{most_levels}
-use Rattle.vt_definitions.specs.Sides.{side, level_count}
+use Rattle.vt_ppm.specs.Depths.{AreBytes}
+use Rattle.vt_ppm.specs.Limits.{most_levels}
+use Rattle.vt_ppm.specs.Sides.{side, level_count}
 use Rattle.vt_ppm.specs.Image.{ImageView, IsLawfulImage, texel_of}
 use Rattle.vt_mip.specs.Chains.{chain}
 use Rattle.vt_mip.specs.Halves.{IsHalf}

@@ -1,11 +1,11 @@
 -- The mip chain of a texture that is read by rows.
 use Rattle.std.specs.Prelude.{◌≡◌, ℕ, zero, suc, ◌+◌, ◌-◌, ◌*◌, ◌^◌, ◌<◌, ◌≤◌, Bool, true, false, List, [], ◌∷◌, ◌++◌, map, min, Option, option_map}
 use Rattle.std.specs.List.{range_with_len}
-use Rattle.vt_definitions.specs.Depths.{IsDepth, texel_length, word_at}
-use Rattle.vt_definitions.specs.Limits.{most_levels, most_tiled_side}
-use Rattle.vt_definitions.specs.Sides.{side, level_count}
-use Rattle.vt_definitions.specs.Texels.{Source}
-use Rattle.vt_definitions.specs.Tiles.{IsTileSide}
+use Rattle.vt_ppm.specs.Depths.{IsDepth, texel_length, word_at}
+use Rattle.vt_ppm.specs.Limits.{most_levels, most_tiled_side}
+use Rattle.vt_ppm.specs.Sides.{side, level_count}
+use Rattle.vt_ppm.specs.Texels.{Source}
+use Rattle.vt_ppm.specs.Tiles.{IsTileSide}
 use Rattle.vt_ppm.specs.OutsideTypes.place.Place.{Place}
 use Rattle.vt_ppm.specs.declared.header.Header.{Header}
 use Rattle.vt_ppm.specs.Format.{depth_of}

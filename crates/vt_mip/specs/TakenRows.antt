@@ -1,7 +1,7 @@
 -- Level 1 of a texture, as far as it is made while the texture's rows come.
 use Rattle.std.specs.Prelude.{◌≡◌, ℕ, ◌+◌, ◌*◌, ◌/◌, ◌≤◌, List, length}
-use Rattle.vt_definitions.specs.Depths.{IsDepth, texel_length}
-use Rattle.vt_definitions.specs.Limits.{most_tiled_side}
+use Rattle.vt_ppm.specs.Depths.{IsDepth, texel_length}
+use Rattle.vt_ppm.specs.Limits.{most_tiled_side}
 use Rattle.vt_ppm.specs.Image.{ImageView}
 use Rattle.vt_mip.specs.Halves.{IsHalvedRaster}
 

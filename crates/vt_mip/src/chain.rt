@@ -1,7 +1,7 @@
 ghost use Rattle.std.specs.Prelude.{◌≡◌, ◌+◌, ◌*◌, ◌<◌, ◌≤◌, ◌↔◌, length, IfOk, OnOk, IsTrue, vec_len, slice_range};
-ghost use Rattle.vt_definitions.specs.Depths.{IsDepth, AreBytes};
-ghost use Rattle.vt_definitions.specs.Limits.{most_levels, most_read_side};
-ghost use Rattle.vt_definitions.specs.Tiles.{IsTileSide};
+ghost use Rattle.vt_ppm.specs.Depths.{IsDepth, AreBytes};
+ghost use Rattle.vt_ppm.specs.Limits.{most_levels, most_read_side};
+ghost use Rattle.vt_ppm.specs.Tiles.{IsTileSide};
 ghost use Rattle.vt_mip.specs.Chains.{ChainView, chain_levels, chain_width, chain_height, chain_texel, IsTexelRow, IsTexelRaster};
 ghost use Rattle.vt_mip.specs.Levels.{GainsHalf, IsLastFitting};
 
@@ -9,9 +9,7 @@ use crate::halving::halved_image;
 use std::alloc::Global;
 use std::marker::Model;
 use std::thread::Threads;
-use vt_definitions::texel_length;
-use vt_parts::processors;
-use vt_ppm::{Image, NoMemory, samples_are_bytes};
+use vt_ppm::{Image, NoMemory, processors, samples_are_bytes, texel_length};
 
 /// A texture and its coarser levels, each the one before it halved, down to the first whose two sides are at most the tile side.
 #[derive(Drop)]

@@ -16,14 +16,13 @@ use crate::taken_rows::Halving;
 use std::alloc::Global;
 use std::mem;
 use std::thread::{Threads, join_mut};
-use vt_parts::{processors, threads_for};
-use vt_ppm::{Failed, File, Header, Image, NoMemory, OutsideError, StripReader};
+use vt_ppm::{
+    Failed, File, Header, Image, NoMemory, OutsideError, STRIP_HALVING_TIME, StripReader,
+    processors, threads_for,
+};
 
 // How many rows a strip has.
 const STRIP_ROWS: u32 = 128;
-
-// How many nanoseconds it takes to read a texel and to halve it, about.
-const STRIP_TEXEL_TIME: u64 = 2;
 
 // How many strips a texture has.
 fn strips_in(header: &Header) -> u32
@@ -241,7 +240,7 @@ pub fn halve_texture<Rt: Threads + Sync, F: File>(
     let mut back = vec![in alloc; 0u8; size]?;
     let mut half = Halving::new(alloc, depth, header.width, header.height)?;
     let texels = u64::from(header.width) * u64::from(STRIP_ROWS);
-    let threads = threads_for(processors(rt), STRIP_TEXEL_TIME * texels);
+    let threads = threads_for(processors(rt), STRIP_HALVING_TIME * texels);
     halve_strips(rt, threads, reader, &mut front, &mut back, &mut half)?;
     Ok(half.finish())
 }

@@ -2,20 +2,15 @@
 
 ghost use Rattle.std.specs.Prelude.{◌≡◌, ◌+◌, ◌*◌, ◌/◌, ◌<◌, ◌≤◌, length, IfOk, OnOk};
 ghost use Rattle.std.specs.Thread.{IsSync};
-ghost use Rattle.vt_definitions.specs.Depths.{IsDepth, AreBytes, texel_length};
-ghost use Rattle.vt_definitions.specs.Limits.{most_tiled_side};
+ghost use Rattle.vt_ppm.specs.Depths.{IsDepth, AreBytes, texel_length};
+ghost use Rattle.vt_ppm.specs.Limits.{most_tiled_side};
 ghost use Rattle.vt_ppm.specs.Image.{IsLawfulImage};
 ghost use Rattle.vt_mip.specs.Halves.{AreHalfSizes, IsHalvedRaster, IsHalf};
 
 use std::alloc::Global;
 use std::thread::{Threads, join_mut};
 use vt_box_filter::halve_rows;
-use vt_definitions::texel_length;
-use vt_parts::{share, threads_for};
-use vt_ppm::{Image, NoMemory, samples_are_bytes};
-
-// How many nanoseconds it takes to make a texel of a half, about: from 2.5 to 3 were measured.
-const TEXEL_TIME: u64 = 3;
+use vt_ppm::{HALVING_TIME, Image, NoMemory, samples_are_bytes, share, texel_length, threads_for};
 
 // Halves a raster whose samples have so many bytes, row by row: an odd last row counts twice.
 fn halve_raster(depth: u32, width: usize, height: usize, source: &[u8], out: &mut [u8])
@@ -168,7 +163,7 @@ pub(crate) fn halved_image<Rt: Threads + Sync>(
     samples_are_bytes(image);
     let threads = threads_for(
         processors,
-        TEXEL_TIME * (half_width as u64 * half_height as u64),
+        HALVING_TIME * (half_width as u64 * half_height as u64),
     );
     halve_in_parts(
         rt,

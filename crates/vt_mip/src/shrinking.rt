@@ -1,7 +1,7 @@
 //! A level that is halved in its own memory while its rows are read.
 
 ghost use Rattle.std.specs.Prelude.{◌≡◌, ℕ, ◌+◌, ◌*◌, ◌/◌, ◌%◌, ◌<◌, ◌≤◌, ◌⊎◌, List, length, IfOk};
-ghost use Rattle.vt_definitions.specs.Depths.{IsDepth, texel_length};
+ghost use Rattle.vt_ppm.specs.Depths.{IsDepth, texel_length};
 ghost use Rattle.vt_ppm.specs.Files.{IsPiece};
 ghost use Rattle.vt_ppm.specs.Image.{ImageView, IsLawfulImage};
 ghost use Rattle.vt_mip.specs.Halves.{IsHalf};
@@ -10,8 +10,7 @@ ghost use Rattle.vt_mip.specs.InPlace.{IsRoomFor, IsShrunk, ShrinksFront};
 use std::alloc::Global;
 use std::marker::Model;
 use vt_box_filter::halve_rows;
-use vt_definitions::texel_length;
-use vt_ppm::{Image, NoMemory};
+use vt_ppm::{Image, NoMemory, texel_length};
 
 /// An image whose rows are halved in its own memory, in order from the top, once they were read.
 #[derive(Drop)]

@@ -1,10 +1,10 @@
 //! The mip chain of a texture that is read by rows, so that it is never in memory as a whole.
 
 ghost use Rattle.std.specs.Prelude.{◌≡◌, ℕ, ◌+◌, ◌*◌, ◌<◌, ◌≤◌, ◌⊎◌, MatchBool, List, Some, true, length, vec_len, is_err, IsErr, IfOk, IfErr, IfSome, OnOk, OnErr};
-ghost use Rattle.vt_definitions.specs.Depths.{IsDepth, AreBytes};
-ghost use Rattle.vt_definitions.specs.Limits.{most_levels, most_tiled_side};
-ghost use Rattle.vt_definitions.specs.Sides.{side, level_count};
-ghost use Rattle.vt_definitions.specs.Tiles.{IsTileSide};
+ghost use Rattle.vt_ppm.specs.Depths.{IsDepth, AreBytes};
+ghost use Rattle.vt_ppm.specs.Limits.{most_levels, most_tiled_side};
+ghost use Rattle.vt_ppm.specs.Sides.{side, level_count};
+ghost use Rattle.vt_ppm.specs.Tiles.{IsTileSide};
 ghost use Rattle.vt_ppm.specs.Counts.{Rose};
 ghost use Rattle.vt_ppm.specs.Format.{depth_of};
 ghost use Rattle.vt_ppm.specs.Strips.{IsTextureIfTold, RowsAsked, row_length, rows_of};
@@ -14,8 +14,7 @@ ghost use Rattle.vt_mip.specs.StripChains.{HasWords, IsBelow, RowsRead, RowsFail
 use std::alloc::Global;
 use std::marker::Model;
 use vt_box_filter::halve_rows;
-use vt_definitions::texel_length;
-use vt_ppm::{Failed, File, NoMemory, StripReader};
+use vt_ppm::{Failed, File, NoMemory, StripReader, texel_length};
 
 /// A texture that is read by rows, and its coarser levels, each the one before it halved, down to the first whose two sides are
 /// at most the tile side. Contracts see the file, the header of the texture and the tile side.

@@ -1,8 +1,8 @@
 //! Level 1 of a texture that is not in memory, made while its rows come.
 
 ghost use Rattle.std.specs.Prelude.{◌≡◌, ℕ, ◌+◌, ◌*◌, ◌/◌, ◌%◌, ◌≤◌, ◌⊎◌, ◌++◌, List, length, vec_len, vec_capacity, IfOk};
-ghost use Rattle.vt_definitions.specs.Depths.{IsDepth, texel_length};
-ghost use Rattle.vt_definitions.specs.Limits.{most_tiled_side};
+ghost use Rattle.vt_ppm.specs.Depths.{IsDepth, texel_length};
+ghost use Rattle.vt_ppm.specs.Limits.{most_tiled_side};
 ghost use Rattle.vt_ppm.specs.Files.{IsPiece};
 ghost use Rattle.vt_ppm.specs.Image.{ImageView, IsLawfulImage};
 ghost use Rattle.vt_mip.specs.Halves.{IsHalf, IsHalvedRaster};
@@ -12,8 +12,7 @@ use crate::halving::halve_in_threads;
 use std::alloc::Global;
 use std::marker::Model;
 use std::thread::Threads;
-use vt_definitions::texel_length;
-use vt_ppm::{Image, NoMemory};
+use vt_ppm::{Image, NoMemory, texel_length};
 
 /// Level 1 of a texture as far as the texture's rows were taken, in order from the top. Room for all of it is asked for at once, but it is
 /// written row by row: so nobody waits until a large level is full of zeros.

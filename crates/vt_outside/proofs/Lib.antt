@@ -5,3 +5,4 @@ pub mod SameLists
 pub mod Named
 pub mod Halves
 pub mod Refusing
+pub mod Writing

@@ -10,3 +10,5 @@ pub mod ClosedFiles
 pub mod MemoryFile
 pub mod MemoryFolder
 pub mod MemorySink
+pub mod Effects
+pub mod Expectations

@@ -1,9 +1,11 @@
-//! The outside of the program: files, folders, sinks and gates as traits, and what stands for them.
+//! The outside of the program: files, folders, sinks and gates as traits, and what stands for them; what a call is to leave in
+//! a folder, how far it came, and the writing of a file.
 #![tactic(auto)]
 
 mod answers;
 mod closed_files;
 mod fails;
+mod files;
 mod fixtures;
 mod gate;
 mod items;
@@ -18,6 +20,7 @@ mod real_sink;
 
 pub use answers::{Failed, NoMemory, OutsideError};
 pub use fails::{Fail, Fails};
+pub use files::write_file;
 pub use gate::OpenGate;
 pub use items::{Bytes, Items};
 pub use memory_file::MemoryFile;

@@ -1,3 +1,5 @@
+pub use Rattle.vt_definitions.proofs.TexelWords
+pub use Rattle.vt_definitions.proofs.Words
 pub mod Counts
 pub mod Making
 pub mod Names

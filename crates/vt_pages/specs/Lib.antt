@@ -1,5 +1,9 @@
+pub use Rattle.vt_definitions.specs.Depths
 pub use Rattle.vt_definitions.specs.Limits
+pub use Rattle.vt_definitions.specs.Numbers
 pub use Rattle.vt_definitions.specs.Sides
+pub use Rattle.vt_definitions.specs.Texels
+pub use Rattle.vt_definitions.specs.Tiles
 pub mod Shape
 pub mod Pages
 pub mod Tables

@@ -5,6 +5,8 @@
 //! page is the place of one tile. Pages are numbered from level 0 on, and within a level row by row.
 #![tactic(auto)]
 
+mod tables;
+
 ghost use Rattle.std.specs.Prelude.{◌^◌, ◌≡◌, ℕ, ◌+◌, ◌/◌, ◌<◌, ◌≤◌, ◌↔◌, ◌&&◌, IfOk, IfErr, IfSome, IsNone, OnOk};
 ghost use Rattle.vt_definitions.specs.Sides.{side};
 ghost use Rattle.vt_pages.specs.Shape.{shape_of, is_texture_side};
@@ -12,11 +14,9 @@ ghost use Rattle.vt_pages.specs.Pages.{IsPage, IsPageAt, IsWithinLimits, columns
 ghost use Rattle.vt_pages.specs.Laws.{AreInverse, ReachesRoot, PlacesNest, LinesFollowPlaces, TilesHoldPlaces, IsInside};
 
 use std::marker::Model;
-use thiserror::Error;
-
-mod tables;
-
 use tables::{Tables, last_level, make_tables, tile_shift};
+use thiserror::Error;
+pub use vt_definitions::{put_word, texel_length};
 
 /// The largest side of a texture, in texels.
 pub const MOST_SIDE: u32 = 16_384;

@@ -17,11 +17,11 @@ use Rattle.vt_grace.specs.WriterViews.{first_writer, is_out}
 use Rattle.vt_grace.specs.Values.{WordsValue}
 use Rattle.vt_word_workers.specs.Fills.{words_in}
 use Rattle.vt_word_workers.specs.Views.{StreamerView, IsStreamerOf}
-use Rattle.vt_workers.specs.Jobs.{Job}
-use Rattle.vt_workers.specs.All.{AllReady}
+use Rattle.vt_word_workers.specs.Jobs.{Job}
+use Rattle.vt_word_workers.specs.All.{AllReady}
 use Rattle.vt_word_workers.specs.MachineTypes.crew.Crew.{Crew}
-use Rattle.vt_requests.specs.Machines.{told_by}
-use Rattle.vt_requests.specs.Passes.{MapsRoot, MayPlace, IsJobFor, IsUntouched, IsSpent}
+use Rattle.vt_word_workers.specs.Machines.{told_by}
+use Rattle.vt_word_workers.specs.Passes.{MapsRoot, MayPlace, IsJobFor, IsUntouched, IsSpent}
 use Rattle.vt_word_workers.specs.Stored.{AreStored}
 use Rattle.vt_word_workers.proofs.Growing.{stored_grow}
 use Rattle.vt_word_workers.specs.WordSamplers.{WordSampler}
@@ -31,7 +31,8 @@ use Rattle.vt_pass.specs.Placed.{HasPlaced}
 use Rattle.vt_word_workers.specs.Kits.{KitView, kit_state, IsKit, IsIdleKit, IsSameKit, AreAllIn}
 use Rattle.vt_pass.specs.WordMachines.{WordView, journal_by, word_state, IsIdleBy, IsReadyBy}
 use Rattle.vt_word_workers.proofs.Kits.{may_draw}
-use Rattle.vt_word_workers.proofs.Rooms.{same_none, same_lists, told_same, files_same, fit_still}
+use Rattle.vt_word_workers.proofs.Rooms.{same_lists, fit_still}
+use Rattle.vt_word_workers.proofs.StoreRooms.{same_none, told_same, files_same}
 
 -- no pass of the first writer is out
 none_out : (m n : ℕ) → get_or (replicate m false) n false ≡ false

@@ -2,18 +2,18 @@
 use Rattle.std.proofs.Common.{◌≡◌, ℕ, List, ◌++◌, length, refl, sym, ap, ◌∙◌, subst}
 use Rattle.vt_outside.specs.declared.outside.File.{Ghosts as FileMeanings}
 use Rattle.vt_journal.specs.declared.changes.Change.{Change}
-use Rattle.vt_workers.specs.PicturesTypes.filters.Filter.{Ghosts as FilterMeanings}
+use Rattle.vt_word_workers.specs.PicturesTypes.filters.Filter.{Ghosts as FilterMeanings}
 use Rattle.vt_grace.specs.declared.views.WriterView.{WriterView}
 use Rattle.vt_grace.specs.WriterViews.{version_of}
 use Rattle.vt_grace.specs.Values.{WordsValue}
 use Rattle.vt_word_workers.specs.Views.{StreamerView}
-use Rattle.vt_loaders.specs.declared.queued.Queues.{Queues}
-use Rattle.vt_loaders.specs.QueuedLoaders.{QueuedView, HasLoaded}
-use Rattle.vt_workers.specs.Jobs.{Job}
-use Rattle.vt_workers.specs.All.{AllDid}
+use Rattle.vt_word_workers.specs.LoadTypes.queued.Queues.{Queues}
+use Rattle.vt_word_workers.specs.QueuedLoaders.{QueuedView, HasLoaded}
+use Rattle.vt_word_workers.specs.Jobs.{Job}
+use Rattle.vt_word_workers.specs.All.{AllDid}
 use Rattle.vt_word_workers.specs.MachineTypes.crew.PassReport.{PassReport}
-use Rattle.vt_requests.specs.Drawings.{drawing_of}
-use Rattle.vt_requests.specs.Passes.{MapsRoot, IsJobFor, IsUntouched}
+use Rattle.vt_word_workers.specs.Drawings.{drawing_of}
+use Rattle.vt_word_workers.specs.Passes.{MapsRoot, IsJobFor, IsUntouched}
 use Rattle.vt_word_workers.specs.WordSamplers.{WordSampler}
 use Rattle.vt_word_workers.specs.declared.workers.WordStreamer.{WordStreamer}
 use Rattle.vt_word_workers.specs.SamplerTasks.{HasDrawn}

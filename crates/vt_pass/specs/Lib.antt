@@ -1,4 +1,6 @@
+pub use Rattle.vt_word_workers.specs.DealtRows
 pub use Rattle.vt_word_workers.specs.Kits
+pub use Rattle.vt_word_workers.specs.Samplers
 pub mod PassKits
 pub mod Placed
 pub mod WordMachines

@@ -3,11 +3,11 @@ use Rattle.std.specs.Prelude.{List}
 use Rattle.vt_outside.specs.declared.outside.File.{Ghosts as FileMeanings}
 use Rattle.vt_grace.specs.Values.{WordsValue}
 use Rattle.vt_word_workers.specs.Views.{StreamerView}
-use Rattle.vt_evict.specs.PlanTypes.batches.Planned.{Planned}
+use Rattle.vt_word_workers.specs.PlanTypes.batches.Planned.{Planned}
 use Rattle.vt_queue.specs.declared.queue.QueuePass.{QueuePass}
 use Rattle.vt_queue.specs.declared.items.Loaded.{Loaded}
-use Rattle.vt_loaders.specs.declared.queued.Queues.{Queues}
-use Rattle.vt_word_workers.specs.StreamingTypes.report.StreamReport.{StreamReport}
+use Rattle.vt_word_workers.specs.LoadTypes.queued.Queues.{Queues}
+use Rattle.vt_word_workers.specs.RequestsTypes.report.StreamReport.{StreamReport}
 use Rattle.vt_word_workers.specs.Kits.{KitView, IsPreparedKit}
 
 -- its queues, the pass by which the streamer takes results, what the streamer tells, and what else a pass uses

@@ -7,21 +7,21 @@ use Rattle.vt_outside.specs.Lists.{ListView}
 use Rattle.vt_outside.specs.declared.outside.File.{Ghosts as FileMeanings}
 use Rattle.vt_outside.specs.declared.answers.NoMemory.{NoMemory}
 use Rattle.vt_camera.specs.Paths.{PathView}
-use Rattle.vt_workers.specs.PicturesTypes.filters.Filter.{Ghosts as FilterMeanings}
+use Rattle.vt_word_workers.specs.PicturesTypes.filters.Filter.{Ghosts as FilterMeanings}
 use Rattle.vt_tiles.specs.Format.{tile_length}
 use Rattle.vt_tiles.specs.StoreViews.{StoreView}
 use Rattle.vt_grace.specs.Values.{WordsValue}
 use Rattle.vt_queue.specs.Queues.{view_of}
-use Rattle.vt_loaders.specs.declared.queued.Queues.{Queues}
-use Rattle.vt_loaders.specs.QueuedLoaders.{QueuedView, HasLoaded, stores_of}
-use Rattle.vt_workers.specs.Jobs.{Job}
-use Rattle.vt_workers.specs.All.{AllDid}
+use Rattle.vt_word_workers.specs.LoadTypes.queued.Queues.{Queues}
+use Rattle.vt_word_workers.specs.QueuedLoaders.{QueuedView, HasLoaded, stores_of}
+use Rattle.vt_word_workers.specs.Jobs.{Job}
+use Rattle.vt_word_workers.specs.All.{AllDid}
 use Rattle.vt_word_workers.specs.MachineTypes.crew.PassReport.{PassReport}
-use Rattle.vt_requests.specs.Drawings.{Drawing, drawing_of}
-use Rattle.vt_requests.specs.Machines.{MachineState, files_of, told_by}
-use Rattle.vt_requests.specs.Passes.{IsJobFor, IsUntouched, Ran, Broke, Ends}
-use Rattle.vt_requests.specs.BatchRounds.{Begun as Round}
-use Rattle.vt_requests.specs.Sizes.{AreSized}
+use Rattle.vt_word_workers.specs.Drawings.{Drawing, drawing_of}
+use Rattle.vt_word_workers.specs.Machines.{MachineState, files_of, told_by}
+use Rattle.vt_word_workers.specs.Passes.{IsJobFor, IsUntouched, Ran, Broke, Ends}
+use Rattle.vt_word_workers.specs.BatchRounds.{Begun as Round}
+use Rattle.vt_word_workers.specs.Sizes.{AreSized}
 use Rattle.vt_word_workers.specs.WordSamplers.{WordSampler}
 use Rattle.vt_word_workers.specs.declared.workers.WordStreamer.{WordStreamer}
 use Rattle.vt_word_workers.specs.SamplerTasks.{HasDrawn}

@@ -3,17 +3,17 @@ use Rattle.std.specs.Prelude.{◌≡◌, ℕ, Option, None, Some, List, [], Resu
 use Rattle.vt_outside.specs.declared.outside.File.{Ghosts as FileMeanings}
 use Rattle.vt_outside.specs.declared.answers.NoMemory.{NoMemory}
 use Rattle.vt_camera.specs.Paths.{PathView}
-use Rattle.vt_workers.specs.PicturesTypes.filters.Filter.{Ghosts as FilterMeanings}
+use Rattle.vt_word_workers.specs.PicturesTypes.filters.Filter.{Ghosts as FilterMeanings}
 use Rattle.vt_journal.specs.declared.changes.Change.{Change}
 use Rattle.vt_grace.specs.Values.{WordsValue}
-use Rattle.vt_evict.specs.PlanTypes.batches.Planned.{Planned}
-use Rattle.vt_loaders.specs.declared.queued.Queues.{Queues}
-use Rattle.vt_loaders.specs.QueuedLoaders.{QueuedView}
-use Rattle.vt_workers.specs.Jobs.{Job}
+use Rattle.vt_word_workers.specs.PlanTypes.batches.Planned.{Planned}
+use Rattle.vt_word_workers.specs.LoadTypes.queued.Queues.{Queues}
+use Rattle.vt_word_workers.specs.QueuedLoaders.{QueuedView}
+use Rattle.vt_word_workers.specs.Jobs.{Job}
 use Rattle.vt_word_workers.specs.MachineTypes.crew.PassReport.{PassReport}
-use Rattle.vt_requests.specs.Drawings.{drawing_of}
-use Rattle.vt_requests.specs.Machines.{MachineState}
-use Rattle.vt_requests.specs.Passes.{Ends}
+use Rattle.vt_word_workers.specs.Drawings.{drawing_of}
+use Rattle.vt_word_workers.specs.Machines.{MachineState}
+use Rattle.vt_word_workers.specs.Passes.{Ends}
 use Rattle.vt_word_workers.specs.WordSamplers.{WordSampler}
 use Rattle.vt_word_workers.specs.declared.workers.WordStreamer.{WordStreamer}
 use Rattle.vt_word_workers.specs.Kits.{KitView, kit_state, IsIdleKit, IsReadyKit, kit_rows}

@@ -3,10 +3,10 @@
 ghost use Rattle.std.specs.Prelude.{◌≡◌, [], IsOk, IfOk, OnOk, OnErr};
 ghost use Rattle.vt_tiles.specs.Depths.{IsDepth};
 ghost use Rattle.vt_word_workers.specs.Crews.{IsCrew};
-ghost use Rattle.vt_requests.specs.Machines.{AreStoresFor};
+ghost use Rattle.vt_word_workers.specs.Machines.{AreStoresFor};
 ghost use Rattle.vt_word_workers.specs.Kits.{IsMadeFor};
-ghost use Rattle.vt_workers.specs.Jobs.{job_of};
-ghost use Rattle.vt_requests.specs.Drawings.{drawing_of};
+ghost use Rattle.vt_word_workers.specs.Jobs.{job_of};
+ghost use Rattle.vt_word_workers.specs.Drawings.{drawing_of};
 ghost use Rattle.vt_word_workers.specs.KitPasses.{Begun, MayFinish};
 ghost use Rattle.vt_pass.specs.WordMachines.{WordView, word_state, IsIdleBy, IsReadyBy, drawn_by, IsMustered, WordFinishes, held_by};
 
@@ -18,17 +18,15 @@ use std::mem;
 use std::sync::Wait;
 use std::thread::Threads;
 use vt_camera::Path;
-use vt_evict::Batch;
-use vt_feedback::Counts;
 use vt_journal::Journal;
-use vt_loaders::QueuedLoader;
 use vt_outside::{File, Gate, Items, NoMemory};
 use vt_pages::Geometry;
 use vt_queue::{QueuePass, Request};
-use vt_requests::{Crew, PassMachine, PassReport, answered};
 use vt_tiles::Stores;
-use vt_word_workers::{Filter, Nearest, WordKit, WordSampler, WordShared, WordStreamer, new_parts};
-use vt_workers::Shot;
+use vt_word_workers::{
+    Batch, Counts, Crew, Filter, Nearest, PassMachine, PassReport, QueuedLoader, Shot, WordKit,
+    WordSampler, WordShared, WordStreamer, answered, new_parts,
+};
 
 /// A machine that draws the rows of a picture by a filter, each under a version that it holds meanwhile, and streams the
 /// batch at the same time.

@@ -1,7 +1,7 @@
 //! One pass over words that its caller holds.
 
-ghost use Rattle.vt_workers.specs.Jobs.{job_of};
-ghost use Rattle.vt_requests.specs.Passes.{MapsRoot, IsJobFor};
+ghost use Rattle.vt_word_workers.specs.Jobs.{job_of};
+ghost use Rattle.vt_word_workers.specs.Passes.{MapsRoot, IsJobFor};
 ghost use Rattle.vt_word_workers.specs.Kits.{kit_setup, kit_state, IsIdleKit, IsPreparedKit, IsReadyKit};
 ghost use Rattle.vt_word_workers.specs.KitPasses.{KitRan};
 ghost use Rattle.vt_word_workers.specs.RoundKits.{AreEmptied};
@@ -9,13 +9,11 @@ ghost use Rattle.vt_word_workers.specs.RoundKits.{AreEmptied};
 use std::marker::PhantomData;
 use std::sync::Wait;
 use std::thread::Threads;
-use vt_evict::Batch;
 use vt_grace::Words;
-use vt_loaders::Queues;
 use vt_outside::{File, Gate};
-use vt_requests::PassReport;
-use vt_word_workers::{Filter, LentShared, WordKit, WordStreamer};
-use vt_workers::{Shot, work_together};
+use vt_word_workers::{
+    Batch, Filter, LentShared, PassReport, Queues, Shot, WordKit, WordStreamer, work_together,
+};
 
 // Draws the picture of a shot by a filter and streams the batch, whose requests were put, at the same time. It may wait.
 fn draw_and_stream<Rt: Threads + Wait + Sync, F: File + Send, P: Filter + Sync, G: Gate + Sync>(

@@ -4,11 +4,11 @@ ghost use Rattle.std.specs.Prelude.{◌≡◌, ◌≤◌, OnOk, length, IfOk, If
 ghost use Rattle.std.specs.List.{concat};
 ghost use Rattle.vt_tiles.specs.Depths.{IsDepth};
 ghost use Rattle.vt_journal.specs.Changes.{newest};
-ghost use Rattle.vt_workers.specs.Jobs.{job_of};
+ghost use Rattle.vt_word_workers.specs.Jobs.{job_of};
 ghost use Rattle.vt_word_workers.specs.Crews.{IsCrew, last_start};
-ghost use Rattle.vt_requests.specs.Machines.{AreStoresFor};
-ghost use Rattle.vt_requests.specs.Outcomes.{IsBatchFor};
-ghost use Rattle.vt_requests.specs.Passes.{MapsRoot, IsJobFor};
+ghost use Rattle.vt_word_workers.specs.Machines.{AreStoresFor};
+ghost use Rattle.vt_word_workers.specs.Outcomes.{IsBatchFor};
+ghost use Rattle.vt_word_workers.specs.Passes.{MapsRoot, IsJobFor};
 ghost use Rattle.vt_pass.specs.PassKits.{IsPreparedFor};
 ghost use Rattle.vt_word_workers.specs.Kits.{kit_setup, kit_state, kit_rows, IsKit, IsIdleKit, IsSameKit};
 ghost use Rattle.vt_word_workers.specs.KitPasses.{KitRan};
@@ -21,16 +21,14 @@ use std::mem;
 use std::sync::Wait;
 use std::thread::Threads;
 use vt_camera::Path;
-use vt_evict::Batch;
-use vt_feedback::Counts;
 use vt_grace::Words;
-use vt_loaders::Queues;
 use vt_outside::{File, Gate, NoMemory};
 use vt_pages::Geometry;
-use vt_requests::{Crew, PassReport};
 use vt_tiles::Stores;
-use vt_word_workers::{Filter, Nearest, Streamer, WordKit, WordShared, WordStreamer, new_parts};
-use vt_workers::Shot;
+use vt_word_workers::{
+    Batch, Counts, Crew, Filter, Nearest, PassReport, Queues, Shot, Streamer, WordKit, WordShared,
+    WordStreamer, new_parts,
+};
 
 /// What a pass over shared words uses, where the caller holds the words and their streamer: the samplers, the
 /// loaders' stores, the queues, and room for what the pass tells. Contracts see the queues and the rest.

@@ -4,7 +4,7 @@ ghost use Rattle.std.specs.Prelude.{◌≡◌, ◌<◌, ◌≤◌, None, OnOk, O
 ghost use Rattle.vt_pages.specs.Pages.{pages_of};
 ghost use Rattle.vt_journal.specs.Changes.{newest, IsFree, IsLegalNext};
 ghost use Rattle.vt_word_workers.specs.Crews.{last_start};
-ghost use Rattle.vt_requests.specs.Views.{IsTile, IsReady, IsWithin};
+ghost use Rattle.vt_word_workers.specs.TableViews.{IsTile, IsReady, IsWithin};
 ghost use Rattle.vt_grace.specs.Banks.{MayFill};
 ghost use Rattle.vt_word_workers.specs.Banks.{HasPublished};
 ghost use Rattle.vt_word_workers.specs.Looks.{HasLooked};

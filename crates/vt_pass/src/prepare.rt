@@ -3,14 +3,13 @@
 ghost use Rattle.std.specs.Prelude.{◌≡◌, ◌≤◌, OnOk, length};
 ghost use Rattle.vt_journal.specs.Changes.{newest};
 ghost use Rattle.vt_word_workers.specs.Crews.{last_start};
-ghost use Rattle.vt_requests.specs.Outcomes.{IsBatchFor};
+ghost use Rattle.vt_word_workers.specs.Outcomes.{IsBatchFor};
 ghost use Rattle.vt_word_workers.specs.Kits.{IsIdleKit, IsReadyKit, IsSameKit};
 
 use std::sync::Wait;
 use std::thread::Threads;
-use vt_evict::Batch;
 use vt_outside::{File, NoMemory};
-use vt_word_workers::{Filter, WordKit, WordShared, WordStreamer};
+use vt_word_workers::{Batch, Filter, WordKit, WordShared, WordStreamer};
 
 /// Makes all room for a pass that streams a batch, puts its requests into new queues, and gives the samplers their passes.
 pub(crate) fn prepare_pass<Rt: Threads + Wait, F: File, P: Filter>(

@@ -1,5 +1,9 @@
+pub use Rattle.vt_draw.proofs.Counts
+pub use Rattle.vt_draw.proofs.DrawnRows
 pub use Rattle.vt_journal.proofs.Contents
 pub use Rattle.vt_journal.proofs.EventLines
 pub use Rattle.vt_journal.proofs.Versions
 pub mod Handed
 pub mod NearestNotes
+pub mod Named
+pub mod WrittenPictures

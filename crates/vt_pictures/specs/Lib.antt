@@ -8,9 +8,12 @@ pub use Rattle.vt_journal.specs.Following
 pub use Rattle.vt_journal.specs.JournalText
 pub use Rattle.vt_journal.specs.Lookups
 pub use Rattle.vt_journal.specs.declared as JournalTypes
+pub use Rattle.vt_ppm.specs.Depths
 pub mod Scenes
 pub mod Replays
 pub mod Evidence
 pub mod FilterLaws
 pub mod NearestPixels
 pub mod NearestPlain
+pub mod Names
+pub mod Pictures

@@ -1,3 +1,4 @@
+pub use Rattle.vt_pictures.proofs.WrittenPictures
 pub mod Joined
 pub mod PlainBlends
 pub mod Counts

@@ -1,3 +1,5 @@
+pub use Rattle.vt_pictures.specs.Names
+pub use Rattle.vt_pictures.specs.Pictures
 pub mod Plain
 pub mod Served
 pub mod Shown

@@ -8,6 +8,7 @@ mod rows;
 mod served;
 
 pub use filter::Bilinear;
-pub use plain::{BLENDING_TIME, draw_plain_blend, draw_plain_blend_into};
+pub use plain::{draw_plain_blend, draw_plain_blend_into};
 pub use rows::draw_row_blend;
 pub use served::{Memo, Seen, memo_of, words_about};
+pub use vt_pictures::{is_picture_name, picture_name};

@@ -18,10 +18,7 @@ use vt_definitions::{put_word, texel_length, texels_with_bytes_have_words, word_
 use vt_draw::surface_of;
 use vt_mip::{Chain, chain_words_are_small, texture_samples_are_bytes};
 use vt_outside::NoMemory;
-use vt_parts::{processors, share, threads_for};
-
-/// How many nanoseconds it takes to blend a pixel, about: 12.7 were measured.
-pub const BLENDING_TIME: u64 = 13;
+use vt_threads::{BLENDING_TIME, processors, share, threads_for};
 
 /// Draws the plain picture with this number of a path by bilinear filtering, row by row from the top: three samples a pixel, each of as
 /// many bytes as the chain's samples have, the most significant first. A pixel is the blend of the four texels about its place, of the

@@ -7,3 +7,6 @@ pub use Rattle.vt_feedback.specs.declared as FeedbackTypes
 pub mod PageLists
 pub mod Missing
 pub mod Entries
+pub mod Orders
+pub mod Views
+pub mod Plans

@@ -1,3 +1,6 @@
+pub use Rattle.vt_definitions.proofs.Levels
+pub use Rattle.vt_definitions.proofs.TexelWords
+pub use Rattle.vt_definitions.proofs.Words
 pub use Rattle.vt_outside.proofs.Refusing as OutsideRefusing
 pub use Rattle.vt_outside.proofs.Untold
 pub mod Gaps

@@ -25,5 +25,7 @@ pub use laws::{
 pub use picture::{begin_picture, encode, encode_into, encode_wide};
 pub use read::{read_header, read_image};
 pub use strips::StripReader;
+pub use vt_definitions::texel_length;
 pub use vt_outside::{Failed, File, NoMemory, OutsideError};
+pub use vt_threads::{HALVING_TIME, STRIP_HALVING_TIME, processors, share, threads_for};
 pub use whole::image_flaw;

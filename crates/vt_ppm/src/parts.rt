@@ -12,10 +12,7 @@ use crate::header::{depth_of, sample_count};
 use crate::raster::{first_over, scale};
 use std::thread::{Threads, join, join_mut};
 use vt_definitions::greatest_sample;
-use vt_parts::{processors, share, threads_for};
-
-// How many nanoseconds it takes to look at a sample or to scale one, about.
-const SAMPLE_TIME: u64 = 1;
+use vt_threads::{SAMPLE_TIME, processors, share, threads_for};
 
 /// How many threads are to pass over the raster behind a header: one where nobody passes over it, as where the maximum is the greatest sample.
 pub fn passing_threads<Rt: Threads>(rt: &Rt, header: &Header) -> usize

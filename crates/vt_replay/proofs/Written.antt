@@ -10,10 +10,11 @@ use Rattle.vt_ppm.specs.Picture.{picture_bytes}
 use Rattle.vt_journal.specs.declared.changes.Change.{Change}
 use Rattle.vt_journal.specs.declared.changes.RowLine.{RowLine}
 use Rattle.vt_journal.specs.JournalText.{Pass}
-use Rattle.vt_files.specs.Effects.{FolderState, FolderEffect}
-use Rattle.vt_files.specs.Expectations.{ExpectedFile, IsPart, AsksNone, Writes}
-use Rattle.vt_files.specs.Pictures.{expected_picture, expected_pictures}
-use Rattle.vt_files.proofs.Writing.{HasPictures, more_pictures, stopped_pictures, part_none}
+use Rattle.vt_outside.specs.Effects.{FolderState, FolderEffect}
+use Rattle.vt_outside.specs.Expectations.{ExpectedFile, IsPart, AsksNone, Writes}
+use Rattle.vt_replay_rows.specs.Pictures.{expected_picture, expected_pictures}
+use Rattle.vt_outside.proofs.Writing.{part_none}
+use Rattle.vt_replay_rows.proofs.WrittenPictures.{HasPictures, more_pictures, stopped_pictures}
 use Rattle.vt_pages.specs.Shape.{Shape}
 use Rattle.vt_camera.specs.Paths.{PathView}
 use Rattle.vt_replay_rows.specs.Scenes.{Scene, scene_of}

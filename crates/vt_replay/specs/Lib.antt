@@ -1,9 +1,9 @@
-pub use Rattle.vt_files.specs.Expectations
-pub use Rattle.vt_files.specs.Pictures
 pub use Rattle.vt_journal.specs.JournalFlaws
+pub use Rattle.vt_outside.specs.Expectations
 pub use Rattle.vt_ppm.specs.Picture
+pub use Rattle.vt_replay_rows.specs.Names
+pub use Rattle.vt_replay_rows.specs.Pictures
 pub use Rattle.vt_replay_rows.specs.Trying
-pub use Rattle.vt_words.specs.Names
 pub mod Flaws
 pub mod Replayed
 pub mod Playing

@@ -7,7 +7,7 @@ use Rattle.vt_pages.specs.Shape.{Shape}
 use Rattle.vt_camera.specs.Paths.{PathView}
 use Rattle.vt_journal.specs.JournalText.{Pass, Content, journal_text}
 use Rattle.vt_journal.specs.JournalFlaws.{IsLawful}
-use Rattle.vt_files.specs.Expectations.{with_files, IsPart}
+use Rattle.vt_outside.specs.Expectations.{with_files, IsPart}
 use Rattle.vt_replay.specs.Flaws.{IsFirstRefused}
 use Rattle.vt_tiles.specs.Places.{IsTilePlace}
 use Rattle.vt_replay_rows.specs.Trying.{Under}

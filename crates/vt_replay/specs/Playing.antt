@@ -9,7 +9,7 @@ use Rattle.vt_journal.specs.declared.changes.RowLine.{RowLine}
 use Rattle.vt_journal.specs.Changes.{at}
 use Rattle.vt_journal.specs.JournalText.{Pass}
 use Rattle.vt_tiles.specs.StoreViews.{StoreView, IsStoreIfTold}
-use Rattle.vt_files.specs.Expectations.{ExpectedFile, with_files, IsPart}
+use Rattle.vt_outside.specs.Expectations.{ExpectedFile, with_files, IsPart}
 use Rattle.vt_replay_rows.specs.Following.{Follows}
 use Rattle.vt_replay_rows.specs.ReplayLookups.{AreTiles}
 use Rattle.vt_outside.specs.Files.{Files}

@@ -10,8 +10,8 @@ use Rattle.vt_journal.specs.declared.changes.RowLine.{RowLine}
 use Rattle.vt_journal.specs.Changes.{Table, at}
 use Rattle.vt_journal.specs.JournalText.{Pass, Content, content_changes}
 use Rattle.vt_tiles.specs.Format.{stored}
-use Rattle.vt_files.specs.Expectations.{ExpectedFile}
-use Rattle.vt_files.specs.Pictures.{expected_pictures}
+use Rattle.vt_outside.specs.Expectations.{ExpectedFile}
+use Rattle.vt_replay_rows.specs.Pictures.{expected_pictures}
 use Rattle.vt_replay_rows.specs.Scenes.{Scene, scene_of}
 use Rattle.vt_replay_rows.specs.Trying.{Under}
 

@@ -2,8 +2,8 @@
 
 ghost use Rattle.std.specs.Prelude.{◌≡◌, ◌⊎◌, ◌≤◌, ℕ, length};
 ghost use Rattle.vt_outside.specs.Counts.{Rose, added};
-ghost use Rattle.vt_files.specs.Effects.{folder_effect};
-ghost use Rattle.vt_files.specs.Expectations.{AsksNone};
+ghost use Rattle.vt_outside.specs.Effects.{folder_effect};
+ghost use Rattle.vt_outside.specs.Expectations.{AsksNone};
 ghost use Rattle.vt_replay_rows.specs.Replays.{pixel_under};
 ghost use Rattle.vt_replay_rows.specs.Following.{IsReadOn};
 ghost use Rattle.vt_replay.specs.Flaws.{IsFirstRefused};

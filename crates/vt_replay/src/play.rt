@@ -10,9 +10,9 @@ ghost use Rattle.vt_journal.specs.Changes.{at};
 ghost use Rattle.vt_journal.specs.JournalText.{Pass, content_changes};
 ghost use Rattle.vt_journal.specs.JournalFlaws.{IsLawful};
 ghost use Rattle.vt_tiles.specs.Format.{stored};
-ghost use Rattle.vt_files.specs.Effects.{folder_effect};
-ghost use Rattle.vt_files.specs.Expectations.{AsksNone};
-ghost use Rattle.vt_files.specs.Pictures.{expected_picture, expected_pictures};
+ghost use Rattle.vt_outside.specs.Effects.{folder_effect};
+ghost use Rattle.vt_outside.specs.Expectations.{AsksNone};
+ghost use Rattle.vt_replay_rows.specs.Pictures.{expected_picture, expected_pictures};
 ghost use Rattle.vt_replay_rows.specs.Scenes.{scene_of};
 ghost use Rattle.vt_replay_rows.specs.Replays.{HasPixels};
 ghost use Rattle.vt_replay_rows.specs.Following.{IsReadOn, Follows, MayBePlayed};
@@ -26,12 +26,10 @@ use std::alloc::Global;
 use std::thread::Threads;
 use vt_camera::Path;
 use vt_definitions::texel_length;
-use vt_draw::Shot;
-use vt_files::Picture;
 use vt_journal::{Journal, JournalText, PassText};
 use vt_outside::{File, Folder, NoMemory, OutsideError};
 use vt_pages::Geometry;
-use vt_replay_rows::{Filter, PageTable, Part, Tiles, draw_version, parts_for};
+use vt_replay_rows::{Filter, PageTable, Part, Picture, Shot, Tiles, draw_version, parts_for};
 use vt_tiles::Store;
 
 /// The table that follows the journal, the loaded tiles, and the room to draw in: the samples of a picture, a count for each page,

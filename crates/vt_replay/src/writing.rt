@@ -2,19 +2,18 @@
 
 ghost use Rattle.std.specs.Prelude.{◌≡◌, ◌*◌, ◌<◌, [], ◌∷◌, length};
 ghost use Rattle.vt_definitions.specs.Depths.{IsDepth, texel_length};
-ghost use Rattle.vt_words.specs.Names.{four_digit_numbers};
+ghost use Rattle.vt_replay_rows.specs.Names.{four_digit_numbers};
 ghost use Rattle.vt_ppm.specs.Picture.{picture_bytes};
-ghost use Rattle.vt_files.specs.Effects.{folder_effect};
-ghost use Rattle.vt_files.specs.Expectations.{Writes};
-ghost use Rattle.vt_files.specs.Pictures.{expected_picture};
+ghost use Rattle.vt_outside.specs.Effects.{folder_effect};
+ghost use Rattle.vt_outside.specs.Expectations.{Writes};
+ghost use Rattle.vt_replay_rows.specs.Pictures.{expected_picture};
 
 use std::alloc::Global;
-use vt_files::{Picture, write_file};
-use vt_outside::{Folder, OutsideError};
+use vt_outside::{Folder, OutsideError, write_file};
 use vt_ppm::encode_into;
-use vt_words::picture_name;
+use vt_replay_rows::{Picture, picture_name};
 
-/// Writes a picture under its name, as `vt_files::write_picture` does, with its bytes made in a buffer, so that memory is taken for the
+/// Writes a picture under its name, as `vt_pictures::write_picture` does, with its bytes made in a buffer, so that memory is taken for the
 /// first picture alone. The buffer may hold anything before and after.
 pub(crate) fn write_picture<D: Folder>(
     buffer: &mut Vec<u8>,

@@ -1,3 +1,4 @@
+pub use Rattle.vt_pictures.proofs.WrittenPictures
 pub mod Reading
 pub mod ReplayLookupLaws
 pub mod Climbing

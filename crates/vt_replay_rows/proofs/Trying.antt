@@ -4,7 +4,7 @@ use Rattle.std.specs.Prelude.{slice_set}
 use Rattle.std.proofs.lemmas.Bool.{cases_lt, false≢true}
 use Rattle.std.proofs.lemmas.List.{get_or_append_left, get_or-append_right, get_or-set_same, get_or-set_other, take-append-le, drop-append-le, drop-drop, drop_at}
 use Rattle.vt_definitions.specs.Depths.{texel_length}
-use Rattle.vt_draw.specs.declared.shots.Shot.{Shot}
+use Rattle.vt_pictures.specs.DrawTypes.shots.Shot.{Shot}
 use Rattle.vt_journal.proofs.Versions.{same_page}
 use Rattle.vt_replay_rows.specs.ReplayLookups.{ReplayLookupView, row_of}
 use Rattle.vt_replay_rows.specs.Trying.{IsLeft, IsDone, AreTried, MayTry}

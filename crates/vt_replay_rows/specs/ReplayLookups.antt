@@ -5,8 +5,8 @@ use Rattle.vt_definitions.specs.Depths.{IsDepth, word_at}
 use Rattle.vt_outside.specs.Files.{IsPiece}
 use Rattle.vt_pages.specs.Shape.{Shape}
 use Rattle.vt_pages.specs.Pages.{level_of, levels_of, pages_of, ancestor_of, root_of}
-use Rattle.vt_draw.specs.declared.lookups.Found.{Found}
-use Rattle.vt_draw.specs.Lookups.{Note, EntryNote, WordNote}
+use Rattle.vt_pictures.specs.DrawTypes.lookups.Found.{Found}
+use Rattle.vt_pictures.specs.DrawLookups.{Note, EntryNote, WordNote}
 use Rattle.vt_journal.specs.Changes.{Table, IsOneToOne}
 use Rattle.vt_journal.specs.Kept.{entries_of}
 use Rattle.vt_tiles.specs.Format.{tile_start, tile_length}

@@ -3,7 +3,7 @@ use Rattle.std.specs.Prelude.{◌≡◌, ℕ, ◌+◌, ◌*◌, ◌<◌, ◌≤�
 use Rattle.vt_definitions.specs.Depths.{IsDepth, texel_length}
 use Rattle.vt_definitions.specs.Texels.{Source}
 use Rattle.vt_pages.specs.Shape.{Shape}
-use Rattle.vt_draw.specs.declared.shots.Shot.{Shot}
+use Rattle.vt_pictures.specs.DrawTypes.shots.Shot.{Shot}
 use Rattle.vt_journal.specs.Changes.{Table}
 use Rattle.vt_journal.specs.Kept.{entries_of}
 use Rattle.vt_tiles.specs.Format.{stored}

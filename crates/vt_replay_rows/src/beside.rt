@@ -18,17 +18,12 @@ use crate::table::PageTable;
 use crate::tiles::Tiles;
 use std::alloc::Global;
 use std::thread::{Threads, join_mut};
-use vt_camera::Path;
 use vt_definitions::texel_length;
-use vt_draw::Shot;
 use vt_outside::{File, NoMemory, OutsideError};
 use vt_pages::Geometry;
-use vt_parts::{processors, share, threads_for};
-use vt_pictures::Filter;
+use vt_pictures::{Filter, Path, Shot};
+use vt_threads::{REPLAYING_TIME, processors, share, threads_for};
 use vt_tiles::Store;
-
-// How long a pixel takes at least, in nanoseconds.
-const PIXEL_NANOSECONDS: u64 = 4;
 
 // How many rows a part leaves out behind one that missed a tile, for they mostly miss it too.
 const ROWS_LEFT_OUT: u32 = 7;
@@ -91,7 +86,7 @@ pub fn parts_for<Rt: Threads>(
     path: &Path,
 ) -> Result<Vec<Part>, NoMemory> {
     let pixels = u64::from(path.width()) * u64::from(path.height());
-    let threads = threads_for(processors(rt), pixels * PIXEL_NANOSECONDS);
+    let threads = threads_for(processors(rt), pixels * REPLAYING_TIME);
     let mut parts = Vec::new(alloc);
     if threads < 2 {
         return Ok(parts);
@@ -324,7 +319,7 @@ fn threads_for_rows(parts: &[Part], left: &[bool], width: u32) -> usize
     ensures { result ≤ length parts.now }
 {
     let pixels = (count_left(left) as u64).saturating_mul(u64::from(width));
-    let threads = threads_for(parts.len(), pixels.saturating_mul(PIXEL_NANOSECONDS));
+    let threads = threads_for(parts.len(), pixels.saturating_mul(REPLAYING_TIME));
     threads.min(parts.len())
 }
 

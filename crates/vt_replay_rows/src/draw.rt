@@ -15,9 +15,8 @@ use crate::replay_lookup::ReplayLookup;
 use crate::table::PageTable;
 use crate::tiles::Tiles;
 use vt_definitions::texel_length;
-use vt_draw::Shot;
 use vt_outside::{File, OutsideError};
-use vt_pictures::Filter;
+use vt_pictures::{Filter, Shot};
 use vt_tiles::Store;
 
 /// What came of a row that was drawn over the loaded tiles: whether one was missed, and which pages were used and which missing.

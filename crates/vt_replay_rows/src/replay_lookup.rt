@@ -13,8 +13,8 @@ use crate::table::PageTable;
 use crate::tiles::{Tiles, entry_at};
 use std::marker::Model;
 use vt_definitions::word_in;
-use vt_draw::{Found, Lookup, place_of};
 use vt_pages::Geometry;
+use vt_pictures::{Found, Lookup, place_of};
 
 /// A look-up of pages in a page table, which maps the root, over the loaded tiles. A page whose tile is not there is
 /// noted, and what is told of its texels means nothing (van Waveren 2012). Contracts see what is looked at, and whether a tile was

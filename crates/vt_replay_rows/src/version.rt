@@ -16,10 +16,9 @@ use crate::draw::draw_left;
 use crate::table::PageTable;
 use crate::tiles::Tiles;
 use std::thread::Threads;
-use vt_draw::Shot;
 use vt_journal::RowLine;
 use vt_outside::{File, OutsideError};
-use vt_pictures::Filter;
+use vt_pictures::{Filter, Shot};
 use vt_tiles::Store;
 
 // How many rows a picture has at most.

@@ -8,18 +8,18 @@ use Rattle.std.proofs.lemmas.List.Elements.{All-nil, All-push}
 use Rattle.std.proofs.lemmas.Option.{slice_get-get_or}
 use Rattle.vt_table.specs.Shape.{Shape}
 use Rattle.vt_table.specs.Pages.{pages_of}
-use Rattle.vt_loaders.specs.Format.{tile_length}
+use Rattle.vt_load.specs.Format.{tile_length}
 use Rattle.vt_machine.specs.PlanTypes.batches.Planned.{Planned}
-use Rattle.vt_loaders.specs.QueueTypes.items.Request.{Request}
-use Rattle.vt_loaders.specs.QueueTypes.queue.Queue.{Queue}
-use Rattle.vt_loaders.specs.QueueTypes.views.PassView.{PassView}
-use Rattle.vt_loaders.specs.PassViews.{all_shares, first_view}
-use Rattle.vt_loaders.specs.Orders.{items_of}
-use Rattle.vt_loaders.specs.Steps.{Puts}
-use Rattle.vt_loaders.specs.Queues.{capacity_of, WasFull}
-use Rattle.vt_loaders.proofs.OrderLemmas.{puts_last, full_of}
-use Rattle.vt_loaders.specs.Readings.{is_readable}
-use Rattle.vt_loaders.specs.Results.{wanted_by}
+use Rattle.vt_load.specs.QueueTypes.items.Request.{Request}
+use Rattle.vt_load.specs.QueueTypes.queue.Queue.{Queue}
+use Rattle.vt_load.specs.QueueTypes.views.PassView.{PassView}
+use Rattle.vt_load.specs.PassViews.{all_shares, first_view}
+use Rattle.vt_load.specs.Orders.{items_of}
+use Rattle.vt_load.specs.Steps.{Puts}
+use Rattle.vt_load.specs.Queues.{capacity_of, WasFull}
+use Rattle.vt_load.proofs.OrderLemmas.{puts_last, full_of}
+use Rattle.vt_load.specs.Readings.{is_readable}
+use Rattle.vt_load.specs.Results.{wanted_by}
 use Rattle.vt_requests.specs.BatchRounds.{page_if, entry_asks, ArePut}
 
 -- So many requests were put through a whole pass, and nothing was taken.

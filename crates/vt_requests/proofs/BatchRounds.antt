@@ -16,14 +16,14 @@ use Rattle.vt_table.specs.Shape.{Shape}
 use Rattle.vt_table.specs.JournalTypes.changes.Event.{Event}
 use Rattle.vt_machine.specs.PlanTypes.batches.Planned.{Planned}
 use Rattle.vt_machine.specs.Batches.{read_entries}
-use Rattle.vt_loaders.specs.QueueTypes.items.Loaded.{Loaded}
-use Rattle.vt_loaders.specs.Orders.{items_of}
-use Rattle.vt_loaders.specs.Readings.{is_lost}
-use Rattle.vt_loaders.specs.Results.{given_by, read_place, lost_among, IsReadFor}
-use Rattle.vt_loaders.specs.Together.{Portion, all_put}
-use Rattle.vt_loaders.specs.QueuedLoaders.{QueuedView, stores_of}
-use Rattle.vt_loaders.specs.Rounds.{Round, AreServed}
-use Rattle.vt_loaders.proofs.Dealing.{all_unmap}
+use Rattle.vt_load.specs.QueueTypes.items.Loaded.{Loaded}
+use Rattle.vt_load.specs.Orders.{items_of}
+use Rattle.vt_load.specs.Readings.{is_lost}
+use Rattle.vt_load.specs.Results.{given_by, read_place, lost_among, IsReadFor}
+use Rattle.vt_load.specs.Together.{Portion, all_put}
+use Rattle.vt_load.specs.QueuedLoaders.{QueuedView, stores_of}
+use Rattle.vt_load.specs.Rounds.{Round, AreServed}
+use Rattle.vt_load.proofs.Dealing.{all_unmap}
 use Rattle.vt_machine.specs.Outcomes.{lost_count, group_if, pass_events, IsOrder, IsOutcome}
 use Rattle.vt_machine.specs.Requests.{FileState, AllTell, times_asked_by, times_failed_by, is_tile_at, times_planned, lost_entries, counts_of, AreReadFor}
 use Rattle.vt_machine.specs.Machines.{file_state, files_of}

@@ -12,7 +12,7 @@ use Rattle.vt_machine.specs.JournalText.{changes_of}
 use Rattle.vt_table.proofs.Versions.{newest-more, mapped_after_unmap}
 use Rattle.vt_machine.specs.PlanTypes.batches.Planned.{Planned}
 use Rattle.vt_table.specs.Depths.{IsDepth, texel_length}
-use Rattle.vt_loaders.specs.Format.{tile_length}
+use Rattle.vt_load.specs.Format.{tile_length}
 use Rattle.vt_table.specs.Views.{TableView, IsTable, IsTile}
 use Rattle.vt_machine.specs.Outcomes.{IsEntryFor, IsVictimOf, victim_events}
 use Rattle.vt_requests.specs.Streams.{Publishes}

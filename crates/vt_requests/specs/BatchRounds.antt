@@ -6,15 +6,15 @@ use Rattle.vt_outside.specs.declared.outside.File.{Ghosts as FileMeanings}
 use Rattle.vt_table.specs.Shape.{Shape}
 use Rattle.vt_table.specs.JournalTypes.changes.Event.{Event}
 use Rattle.vt_machine.specs.PlanTypes.batches.Planned.{Planned}
-use Rattle.vt_loaders.specs.QueueTypes.items.Request.{Request}
-use Rattle.vt_loaders.specs.QueueTypes.items.Loaded.{Loaded}
-use Rattle.vt_loaders.specs.QueueTypes.views.PassView.{PassView}
-use Rattle.vt_loaders.specs.PassViews.{all_shares}
-use Rattle.vt_loaders.specs.Orders.{items_of}
-use Rattle.vt_loaders.specs.declared.queued.Queues.{Queues}
-use Rattle.vt_loaders.specs.Readings.{is_lost, is_readable}
-use Rattle.vt_loaders.specs.Results.{wanted_by}
-use Rattle.vt_loaders.specs.QueuedLoaders.{QueuedView, HasLoaded, IsLoaderOf, AreSplitOff}
+use Rattle.vt_load.specs.QueueTypes.items.Request.{Request}
+use Rattle.vt_load.specs.QueueTypes.items.Loaded.{Loaded}
+use Rattle.vt_load.specs.QueueTypes.views.PassView.{PassView}
+use Rattle.vt_load.specs.PassViews.{all_shares}
+use Rattle.vt_load.specs.Orders.{items_of}
+use Rattle.vt_load.specs.declared.queued.Queues.{Queues}
+use Rattle.vt_load.specs.Readings.{is_lost, is_readable}
+use Rattle.vt_load.specs.Results.{wanted_by}
+use Rattle.vt_load.specs.QueuedLoaders.{QueuedView, HasLoaded, IsLoaderOf, AreSplitOff}
 use Rattle.vt_machine.specs.Outcomes.{group_if}
 
 -- the page of an entry, if there is one

@@ -3,16 +3,16 @@
 ghost use Rattle.std.specs.Prelude.{◌≡◌, ℕ, ◌<◌, ◌≤◌, ◌+◌, ◌^◌, [], ◌∷◌, ◌++◌, length, All, slice_get};
 ghost use Rattle.vt_table.specs.Shape.{Shape};
 ghost use Rattle.vt_table.specs.Pages.{pages_of};
-ghost use Rattle.vt_loaders.specs.Format.{tile_length};
-ghost use Rattle.vt_loaders.specs.PassViews.{first_view};
-ghost use Rattle.vt_loaders.specs.Steps.{Puts};
-ghost use Rattle.vt_loaders.specs.Queues.{view_of, splits_of, IsOf, capacity_of, WasFull};
+ghost use Rattle.vt_load.specs.Format.{tile_length};
+ghost use Rattle.vt_load.specs.PassViews.{first_view};
+ghost use Rattle.vt_load.specs.Steps.{Puts};
+ghost use Rattle.vt_load.specs.Queues.{view_of, splits_of, IsOf, capacity_of, WasFull};
 ghost use Rattle.vt_requests.specs.BatchRounds.{ArePut, page_if};
 ghost use Rattle.vt_requests.specs.Sizes.{AreSized};
 
 use std::sync::Wait;
 use std::thread::Threads;
-use vt_loaders::{Loaded, QueuePass, Request, RequestQueue};
+use vt_load::{Loaded, QueuePass, Request, RequestQueue};
 use vt_machine::Planned;
 use vt_outside::{Bytes, Items};
 

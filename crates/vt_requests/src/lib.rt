@@ -1,11 +1,16 @@
-//! A round of requests for a batch: what is asked, and what the results are for the batch.
+//! A round of requests for a batch: what is asked, what comes back and is told, and what the results are for the batch.
 #![tactic(auto)]
 
+mod answers;
 mod asks;
-mod dealing;
+mod report;
 mod rounds;
 
+pub use answers::answered;
 pub use asks::{ask_batch, give_back};
-pub use dealing::{answered, sampler_of};
+pub use report::StreamReport;
 pub use rounds::rounds_are_passes;
-pub use vt_machine::{Crew, Losses, PassMachine, PassReport, Planned, Task};
+pub use vt_machine::{
+    Batch, Crew, Events, FeedbackCounts as Counts, Losses, PassMachine, PassReport, Planned, Shot,
+    Task, sampler_of, work_together,
+};

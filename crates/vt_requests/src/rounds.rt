@@ -4,9 +4,9 @@ ghost use Rattle.std.specs.Prelude.{◌≡◌, ℕ, Bool, List, length, All, Opt
 ghost use Rattle.vt_table.specs.Shape.{Shape};
 ghost use Rattle.vt_table.specs.JournalTypes.changes.Event.{Event};
 ghost use Rattle.vt_machine.specs.PlanTypes.batches.Planned.{Planned as Entry};
-ghost use Rattle.vt_loaders.specs.Orders.{items_of};
-ghost use Rattle.vt_loaders.specs.QueuedLoaders.{stores_of};
-ghost use Rattle.vt_loaders.specs.Rounds.{Round, AreServed};
+ghost use Rattle.vt_load.specs.Orders.{items_of};
+ghost use Rattle.vt_load.specs.QueuedLoaders.{stores_of};
+ghost use Rattle.vt_load.specs.Rounds.{Round, AreServed};
 ghost use Rattle.vt_machine.specs.Outcomes.{IsOrder, IsOutcome};
 ghost use Rattle.vt_machine.specs.Requests.{AreReadFor};
 ghost use Rattle.vt_machine.specs.Machines.{files_of};

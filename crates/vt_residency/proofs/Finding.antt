@@ -11,7 +11,7 @@ use Rattle.vt_pages.specs.Pages.{IsWithinLimits, level_of, levels_of, pages_of, 
 use Rattle.vt_pages.specs.Lookups.{lookup}
 use Rattle.vt_pages.proofs.Parents.{IsParent, parent_facts, root_facts, line_begins}
 use Rattle.vt_pages.proofs.Lines.{parent_is, reaches_root}
-use Rattle.vt_evict.specs.Views.{RecencyView, IsTable, is_pinned}
+use Rattle.vt_plan.specs.Views.{RecencyView, IsTable, is_pinned}
 use Rattle.std.proofs.lemmas.Bool.{false≢true}
 use Rattle.std.proofs.Common.{zero, ◌-◌, ◌≤◌, nat_le, sym}
 

@@ -11,7 +11,7 @@ use Rattle.vt_pages.specs.Pages.{pages_of}
 use Rattle.vt_feedback.specs.declared.Wanted.{Wanted}
 use Rattle.vt_feedback.specs.Wants.{IsWants}
 use Rattle.vt_evict.specs.PlanTypes.batches.Planned.{Planned}
-use Rattle.vt_evict.specs.Views.{RecencyView, IsTable, is_held, free_frames}
+use Rattle.vt_plan.specs.Views.{RecencyView, IsTable, is_held, free_frames}
 use Rattle.vt_evict.specs.Batches.{IsLawful}
 use Rattle.vt_residency.specs.Residencies.{ResidencyView, IsPlanned, IsPassed, pinned_at}
 use Rattle.vt_residency.proofs.Ranking.{wants_same}

@@ -16,7 +16,7 @@ use Rattle.vt_pages.specs.Limits.{most_frames}
 use Rattle.vt_feedback.specs.declared.Wanted.{Wanted}
 use Rattle.vt_evict.specs.PlanTypes.batches.Planned.{Planned}
 use Rattle.vt_evict.proofs.PlanListLemmas.{nat_eq_true}
-use Rattle.vt_evict.specs.Views.{RecencyView, IsTable, touched}
+use Rattle.vt_plan.specs.Views.{RecencyView, IsTable, touched}
 use Rattle.vt_evict.specs.Batches.{IsFree, IsVictim, IsLawful, IsLawfulEntry, IsSettled, is_page, is_read, is_victim, read_entries}
 use Rattle.vt_evict.proofs.ListLemmas.{below_in}
 use Rattle.vt_evict.proofs.SettleLemmas.{contains_head, read_among, eq_false}

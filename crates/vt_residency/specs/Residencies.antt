@@ -8,9 +8,9 @@ use Rattle.vt_pages.specs.Pages.{pages_of}
 use Rattle.vt_feedback.specs.declared.Wanted.{Wanted}
 use Rattle.vt_feedback.specs.Wants.{IsWants}
 use Rattle.vt_evict.specs.PlanTypes.batches.Planned.{Planned}
-use Rattle.vt_evict.specs.Views.{RecencyView, IsTable, free_frames, touched, first_view}
+use Rattle.vt_plan.specs.Views.{RecencyView, IsTable, free_frames, touched, first_view}
 use Rattle.vt_evict.specs.Batches.{IsLawful, IsSettled, read_entries}
-use Rattle.vt_evict.specs.Plans.{plan_of}
+use Rattle.vt_plan.specs.Plans.{plan_of}
 use Rattle.vt_residency.specs.Tallies.{IsTally}
 use Rattle.vt_residency.specs.Loads.{is_apart}
 use Rattle.vt_residency.specs.Changes.{changes_of}

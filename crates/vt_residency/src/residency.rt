@@ -8,7 +8,7 @@ ghost use Rattle.vt_pages.specs.Limits.{most_frames};
 ghost use Rattle.vt_pages.specs.Pages.{IsWithinLimits, pages_of, pages_below, levels_of};
 ghost use Rattle.vt_pages.specs.Lookups.{lookup};
 ghost use Rattle.vt_evict.specs.Missing.{is_mapped};
-ghost use Rattle.vt_evict.specs.Views.{IsTable, free_frames};
+ghost use Rattle.vt_plan.specs.Views.{IsTable, free_frames};
 ghost use Rattle.vt_evict.specs.Batches.{IsLawful, read_entries};
 ghost use Rattle.vt_residency.specs.Places.{IsPlaceOf};
 ghost use Rattle.vt_residency.specs.Needs.{state_for};

@@ -10,9 +10,9 @@ use Rattle.std.proofs.lemmas.List.FromFn.{length-range_with_len}
 use Rattle.std.proofs.lemmas.List.Elements.{filter-append}
 use Rattle.std.proofs.lemmas.List.Sums.{sum_by-cons, sum_by_push}
 use Rattle.vt_pages.specs.Shape.{Shape}
-use Rattle.vt_camera.specs.Paths.{PathView, ArePictureSides}
-use Rattle.vt_camera.specs.Rows.{RowView}
-use Rattle.vt_draw.specs.Shots.{shot_row, wants_in_rows}
+use Rattle.vt_lookup.specs.Paths.{PathView, ArePictureSides}
+use Rattle.vt_lookup.specs.Rows.{RowView}
+use Rattle.vt_lookup.specs.Shots.{shot_row, wants_in_rows}
 use Rattle.vt_lookup.specs.FilterLaws.{WantsFew}
 use Rattle.vt_sampler.specs.Samplers.{own_rows, own_count, row_in}
 use Rattle.vt_sampler.proofs.Quotients.{apart, quotient_from, rest_small}

@@ -1,6 +1,6 @@
 -- What is true of a still table.
 use Rattle.std.proofs.Common.{◌≡◌, ℕ, ◌+◌, Option, Some, None, List, length, refl, sym, ap, ◌∙◌, arith}
-use Rattle.vt_draw.specs.Lookups.{Note, EntryNote, WordNote}
+use Rattle.vt_lookup.specs.Lookups.{Note, EntryNote, WordNote}
 use Rattle.vt_table.specs.Changes.{newest}
 use Rattle.vt_definitions.specs.Depths.{word_at}
 use Rattle.vt_table.specs.Views.{TableView, word_in, tile_word}

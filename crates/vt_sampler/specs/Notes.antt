@@ -2,7 +2,7 @@
 use Rattle.std.specs.Prelude.{◌≡◌, ℕ, ◌+◌, ◌*◌, ◌≤◌, List, Option, Some, None, IsSome, length}
 use Rattle.vt_definitions.specs.Depths.{IsDepth, texel_length}
 use Rattle.vt_pages.specs.Pages.{root_of}
-use Rattle.vt_draw.specs.Lookups.{Note, EntryNote, WordNote}
+use Rattle.vt_lookup.specs.Lookups.{Note, EntryNote, WordNote}
 use Rattle.vt_table.specs.Changes.{newest}
 use Rattle.vt_table.specs.Views.{TableView, IsMapped, tile_of, word_in}
 

@@ -5,7 +5,7 @@ use Rattle.vt_definitions.specs.Limits.{most_samplers}
 use Rattle.vt_definitions.specs.Depths.{texel_length}
 use Rattle.vt_pages.specs.Shape.{Shape}
 use Rattle.vt_pages.specs.Pages.{pages_of}
-use Rattle.vt_camera.specs.Paths.{PathView, ArePictureSides}
+use Rattle.vt_lookup.specs.Paths.{PathView, ArePictureSides}
 
 -- the rows of a sampler of a picture of so many: those whose number leaves its own by the number of samplers, from the top
 unfoldable pub own_rows : ℕ → ℕ → ℕ → List ℕ

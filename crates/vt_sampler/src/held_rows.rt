@@ -4,7 +4,7 @@ ghost use Rattle.std.specs.Prelude.{◌≡◌, ℕ, ◌+◌, ◌*◌, ◌/◌, �
 ghost use Rattle.vt_definitions.specs.Limits.{most_samplers};
 ghost use Rattle.vt_definitions.specs.Depths.{IsDepth, texel_length};
 ghost use Rattle.vt_pages.specs.Pages.{pages_of};
-ghost use Rattle.vt_draw.specs.Shots.{shot_row, wants_in_rows};
+ghost use Rattle.vt_lookup.specs.Shots.{shot_row, wants_in_rows};
 ghost use Rattle.vt_lookup.specs.Evidence.{AreShown};
 ghost use Rattle.vt_lookup.specs.Tokens.{IsPassOf};
 ghost use Rattle.vt_lookup.specs.Notes.{Fits, IsNotedIn, HasHeldMore};
@@ -12,8 +12,7 @@ ghost use Rattle.vt_sampler.specs.Held.{WasHeld};
 ghost use Rattle.vt_sampler.specs.Samplers.{own_rows, own_count, row_in, row_length};
 
 use vt_definitions::texel_length;
-use vt_draw::Shot;
-use vt_lookup::{Filter, Pass, Words, draw_held};
+use vt_lookup::{Filter, Pass, Shot, Words, draw_held};
 use vt_outside::Gate;
 
 /// Draws the rows of a sampler of a picture by a filter over a table of words, one after the other, each in the newest version,

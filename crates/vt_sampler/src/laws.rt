@@ -3,9 +3,9 @@
 ghost use Rattle.std.specs.Prelude.{◌≡◌, ℕ, ◌^◌, ◌<◌, ◌≤◌, sum_by};
 ghost use Rattle.std.specs.List.{range_with_len};
 ghost use Rattle.vt_pages.specs.Shape.{Shape};
-ghost use Rattle.vt_camera.specs.Paths.{PathView, ArePictureSides};
+ghost use Rattle.vt_lookup.specs.Paths.{PathView, ArePictureSides};
 ghost use Rattle.vt_sampler.specs.Samplers.{own_rows};
-ghost use Rattle.vt_draw.specs.Shots.{wants_in_rows};
+ghost use Rattle.vt_lookup.specs.Shots.{wants_in_rows};
 
 use vt_lookup::Filter;
 

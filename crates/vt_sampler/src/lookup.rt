@@ -3,13 +3,13 @@
 ghost use Rattle.std.specs.Prelude.{◌≡◌, ◌*◌, ◌<◌, Some, None, length, IfSome, IfNone};
 ghost use Rattle.vt_pages.specs.Pages.{pages_of, index_of, IsPage};
 ghost use Rattle.vt_table.specs.Changes.{newest};
-ghost use Rattle.vt_draw.specs.Lookups.{IsFinest};
+ghost use Rattle.vt_lookup.specs.Lookups.{IsFinest};
 ghost use Rattle.vt_table.specs.Views.{TableView, IsMapped, word_in};
 ghost use Rattle.vt_sampler.specs.Notes.{IsTrueOf, MapsRoot};
 
 use std::marker::Model;
 use vt_definitions::word_in;
-use vt_draw::{Found, Lookup, place_of};
+use vt_lookup::{Found, Lookup, place_of};
 use vt_pages::{Geometry, PageName};
 use vt_table::StillTable;
 

@@ -4,13 +4,13 @@ ghost use Rattle.std.specs.Prelude.{◌≡◌, ℕ, ◌+◌, ◌*◌, ◌%◌, �
 ghost use Rattle.vt_definitions.specs.Limits.{most_samplers};
 ghost use Rattle.vt_definitions.specs.Depths.{IsDepth, texel_length};
 ghost use Rattle.vt_pages.specs.Pages.{pages_of};
-ghost use Rattle.vt_draw.specs.Shots.{shot_row, AreDrawn, AreCounted, pixels_in_rows};
+ghost use Rattle.vt_lookup.specs.Shots.{shot_row, AreDrawn, AreCounted, pixels_in_rows};
 ghost use Rattle.vt_sampler.specs.Notes.{IsTrueOf, MapsRoot};
 ghost use Rattle.vt_sampler.specs.Samplers.{own_rows, own_count, row_in, row_length};
 
 use crate::lookup::StillLookup;
 use vt_definitions::texel_length;
-use vt_draw::{Shot, draw_row};
+use vt_lookup::{Shot, draw_row};
 use vt_table::StillTable;
 
 // Draws row y of a picture over a table.

@@ -11,12 +11,12 @@ use Rattle.vt_pages.specs.Shape.{Shape}
 use Rattle.vt_draw.specs.Paths.{PathView}
 use Rattle.vt_draw.specs.Rows.{RowView}
 use Rattle.vt_draw.specs.Shots.{shot_row, wants_in_rows}
-use Rattle.vt_pictures.specs.declared.filters.Filter.{Ghosts as FilterMeanings}
-use Rattle.vt_pictures.specs.Evidence.{AreShown}
-use Rattle.vt_pictures.proofs.Handed.{shown_by_more}
+use Rattle.vt_sampler.specs.PicturesTypes.filters.Filter.{Ghosts as FilterMeanings}
+use Rattle.vt_sampler.specs.Evidence.{AreShown}
+use Rattle.vt_sampler.proofs.Handed.{shown_by_more}
 use Rattle.vt_grace.specs.declared.views.PassView.{PassView}
 use Rattle.vt_grace.specs.PassViews.{NoneAbove}
-use Rattle.vt_lookup.specs.Notes.{IsNotedIn, HasHeldMore}
+use Rattle.vt_sampler.specs.LookupNotes.{IsNotedIn, HasHeldMore}
 use Rattle.vt_sampler.specs.Samplers.{row_length}
 use Rattle.vt_sampler.proofs.Holding.{was_held_then, was_held_now, not_above}
 use Rattle.vt_shared_rows.specs.declared.bag.RowJob.{RowJob}

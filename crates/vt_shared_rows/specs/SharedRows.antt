@@ -5,10 +5,10 @@ use Rattle.vt_pages.specs.Shape.{Shape}
 use Rattle.vt_pages.specs.Pages.{pages_of}
 use Rattle.vt_draw.specs.Paths.{PathView}
 use Rattle.vt_draw.specs.Shots.{shot_row, wants_in_rows}
-use Rattle.vt_pictures.specs.declared.filters.Filter.{Ghosts as FilterMeanings}
-use Rattle.vt_pictures.specs.Evidence.{AreShown}
+use Rattle.vt_sampler.specs.PicturesTypes.filters.Filter.{Ghosts as FilterMeanings}
+use Rattle.vt_sampler.specs.Evidence.{AreShown}
 use Rattle.vt_grace.specs.declared.views.PassView.{PassView as WordsPass}
-use Rattle.vt_lookup.specs.Notes.{IsNotedIn}
+use Rattle.vt_sampler.specs.LookupNotes.{IsNotedIn}
 use Rattle.vt_sampler.specs.Held.{WasHeld}
 use Rattle.vt_sampler.specs.Samplers.{row_length}
 use Rattle.vt_queue.specs.declared.views.PassView.{PassView}

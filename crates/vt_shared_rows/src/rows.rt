@@ -5,10 +5,10 @@ ghost use Rattle.vt_definitions.specs.Depths.{IsDepth};
 ghost use Rattle.vt_pages.specs.Pages.{pages_of};
 ghost use Rattle.vt_draw.specs.Paths.{ArePictureSides};
 ghost use Rattle.vt_draw.specs.Shots.{shot_row, wants_in_rows};
-ghost use Rattle.vt_pictures.specs.Evidence.{AreShown, AreRaised};
+ghost use Rattle.vt_sampler.specs.Evidence.{AreShown, AreRaised};
 ghost use Rattle.vt_grace.specs.PassViews.{NoneAbove};
 ghost use Rattle.vt_grace.specs.Tokens.{IsPassOf};
-ghost use Rattle.vt_lookup.specs.Notes.{Fits, IsNotedIn, HasHeldMore};
+ghost use Rattle.vt_sampler.specs.LookupNotes.{Fits, IsNotedIn, HasHeldMore};
 ghost use Rattle.vt_sampler.specs.Samplers.{row_length};
 ghost use Rattle.vt_queue.specs.Steps.{Takes};
 ghost use Rattle.vt_shared_rows.specs.Bags.{view_of, IsOf};
@@ -19,9 +19,8 @@ use std::sync::Wait;
 use vt_definitions::texel_length;
 use vt_draw::Shot;
 use vt_grace::{Pass, Words};
-use vt_lookup::draw_held;
 use vt_outside::{Gate, Items};
-use vt_pictures::Filter;
+use vt_sampler::{Filter, draw_held};
 
 // Whether it is a row of the shot's picture, with as many bytes as a row has.
 fn fits(job: &RowJob, shot: &Shot) -> bool

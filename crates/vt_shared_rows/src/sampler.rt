@@ -4,7 +4,7 @@ ghost use Rattle.std.specs.Prelude.{◌≡◌, ℕ, ◌<◌, true, None, [], len
 ghost use Rattle.vt_definitions.specs.Depths.{IsDepth};
 ghost use Rattle.vt_pages.specs.Pages.{pages_of};
 ghost use Rattle.vt_grace.specs.Tokens.{IsPassOf};
-ghost use Rattle.vt_lookup.specs.Notes.{Fits, HasHeldMore};
+ghost use Rattle.vt_sampler.specs.LookupNotes.{Fits, HasHeldMore};
 ghost use Rattle.vt_shared_rows.specs.SharedRows.{MayShare, HasShared, versions_of};
 
 use crate::bag::{BagPass, RowBag, RowJob};
@@ -15,7 +15,7 @@ use vt_draw::Shot;
 use vt_grace::{Pass, Words};
 use vt_outside::{Gate, Items, NoMemory};
 use vt_pages::Geometry;
-use vt_pictures::Filter;
+use vt_sampler::Filter;
 
 /// A sampler that takes rows from a bag and keeps those that it has drawn.
 #[derive(Drop)]

@@ -12,7 +12,7 @@ use Rattle.vt_pages.specs.Shape.{Shape}
 use Rattle.vt_pages.specs.Pages.{pages_of}
 use Rattle.vt_camera.specs.Paths.{PathView, ArePictureSides}
 use Rattle.vt_camera.specs.Rows.{RowView}
-use Rattle.vt_draw.specs.Shots.{shot_row, wants_in_rows}
+use Rattle.vt_pictures.specs.Shots.{shot_row, wants_in_rows}
 use Rattle.vt_pictures.specs.declared.filters.Filter.{Ghosts as FilterMeanings}
 use Rattle.vt_pictures.specs.Evidence.{AreShown}
 use Rattle.vt_pictures.specs.FilterLaws.{WantsFew, picture_wants}
@@ -27,10 +27,10 @@ use Rattle.vt_grace.specs.WriterViews.{version_of, is_out}
 use Rattle.vt_shared_rows.specs.Notes.{IsNotedIn}
 use Rattle.vt_shared_rows.specs.Samplers.{row_length}
 use Rattle.vt_shared_rows.proofs.Sharing.{picture_few}
-use Rattle.vt_streamer.specs.Views.{StreamerView}
+use Rattle.vt_word_workers.specs.Views.{StreamerView}
 use Rattle.vt_word_workers.specs.Noted.{IsNotedBy, IsAmong}
 use Rattle.vt_pictures.specs.Scenes.{Scene}
-use Rattle.vt_loaders.specs.Steps.{IsAtStep}
+use Rattle.vt_load.specs.Steps.{IsAtStep}
 use Rattle.vt_word_workers.specs.GivenPasses.{HasNewPass, ArePassesOf, all_returned, after_pass, without_pass, without_passes}
 use Rattle.vt_word_workers.proofs.Returned.{holds_of, HasOwnPass, return_of, WasReturned, was_returned, have_returned, says_more, none_out, have_noted}
 use Rattle.vt_shared_rows.specs.declared.bag.RowJob.{RowJob}

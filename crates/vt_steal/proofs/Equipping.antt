@@ -9,10 +9,10 @@ use Rattle.std.proofs.lemmas.Option.{slice_get_within, slice_get-get_or, get_or_
 use Rattle.vt_outside.specs.Lists.{ListView}
 use Rattle.vt_pages.specs.Shape.{Shape}
 use Rattle.vt_journal.specs.declared.changes.RowLine.{RowLine}
-use Rattle.vt_loaders.specs.QueueTypes.views.PassView.{PassView}
-use Rattle.vt_loaders.specs.PassViews.{pass_view, all_shares}
-use Rattle.vt_loaders.specs.Orders.{placed}
-use Rattle.vt_loaders.proofs.Gathered.{placed_more, placed_items}
+use Rattle.vt_load.specs.QueueTypes.views.PassView.{PassView}
+use Rattle.vt_load.specs.PassViews.{pass_view, all_shares}
+use Rattle.vt_load.specs.Orders.{placed}
+use Rattle.vt_load.proofs.Gathered.{placed_more, placed_items}
 use Rattle.vt_shared_rows.specs.declared.bag.RowJob.{RowJob}
 use Rattle.vt_shared_rows.specs.declared.bag.RowBag.{RowBag}
 use Rattle.vt_shared_rows.specs.declared.bag.BagPass.{BagPass}

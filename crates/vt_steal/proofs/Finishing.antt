@@ -8,7 +8,7 @@ use Rattle.std.proofs.lemmas.Option.{slice_get-get_or}
 use Rattle.vt_outside.specs.declared.outside.File.{Ghosts as FileMeanings}
 use Rattle.vt_pages.specs.Shape.{Shape}
 use Rattle.vt_pages.specs.Pages.{pages_of, IsWithinLimits}
-use Rattle.vt_draw.specs.Shots.{shot_row}
+use Rattle.vt_pictures.specs.Shots.{shot_row}
 use Rattle.vt_journal.specs.declared.changes.Change.{Change}
 use Rattle.vt_journal.specs.declared.changes.Event.{Event}
 use Rattle.vt_journal.specs.declared.changes.RowLine.{RowLine}
@@ -19,17 +19,17 @@ use Rattle.vt_pictures.specs.FilterLaws.{IsUnder}
 use Rattle.vt_tiles.specs.Format.{stored}
 use Rattle.vt_pictures.specs.Replays.{IsFull, AreReplayed}
 use Rattle.vt_grace.specs.Values.{WordsValue}
-use Rattle.vt_streamer.specs.Views.{StreamerView}
-use Rattle.vt_loaders.specs.declared.queued.Queues.{Queues}
-use Rattle.vt_loaders.specs.QueuedLoaders.{QueuedView}
-use Rattle.vt_workers.specs.Jobs.{Job}
+use Rattle.vt_word_workers.specs.Views.{StreamerView}
+use Rattle.vt_load.specs.declared.queued.Queues.{Queues}
+use Rattle.vt_load.specs.QueuedLoaders.{QueuedView}
+use Rattle.vt_machine.specs.Jobs.{Job}
 use Rattle.vt_machine.specs.declared.crew.PassReport.{PassReport}
 use Rattle.vt_machine.specs.Outcomes.{IsOutcome}
 use Rattle.vt_machine.specs.RowOrders.{AreRowsInOrder}
 use Rattle.vt_machine.specs.Requests.{AreReadFor}
 use Rattle.vt_machine.specs.Machines.{files_of, told_by}
 use Rattle.vt_machine.specs.Passes.{IsPictured, Ends}
-use Rattle.vt_requests.specs.BatchRounds.{result_events}
+use Rattle.vt_word_workers.specs.BatchRounds.{result_events}
 use Rattle.vt_word_workers.specs.Made.{HasStreamed, results_contents}
 use Rattle.vt_word_workers.specs.Noted.{IsNotedBy, AreNotedRows}
 use Rattle.vt_word_workers.specs.Stored.{AreStored}
@@ -38,7 +38,7 @@ use Rattle.vt_word_workers.proofs.Replayed.{picture_replayed}
 use Rattle.vt_word_workers.specs.declared.workers.WordStreamer.{WordStreamer}
 use Rattle.vt_word_workers.proofs.Contents.{results_stored}
 use Rattle.vt_word_workers.proofs.Returned.{journal_stays, contents_stay}
-use Rattle.vt_stream_kit.specs.StreamKits.{StreamKitView, stream_before}
+use Rattle.vt_word_workers.specs.StreamKits.{StreamKitView, stream_before}
 use Rattle.vt_shared_rows.specs.declared.bag.RowJob.{RowJob}
 use Rattle.vt_shared_rows.specs.declared.bag.RowBag.{RowBag}
 use Rattle.vt_steal.specs.declared.row_kit.RowKit.{RowKit}

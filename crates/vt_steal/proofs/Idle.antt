@@ -20,11 +20,11 @@ use Rattle.vt_grace.specs.Sizes.{sizes_of}
 use Rattle.vt_grace.specs.WriterViews.{first_writer, is_out}
 use Rattle.vt_grace.specs.Values.{WordsValue}
 use Rattle.vt_shared_rows.specs.Notes.{Fits}
-use Rattle.vt_streamer.specs.Fills.{words_in}
-use Rattle.vt_streamer.specs.Views.{StreamerView, IsStreamerOf}
-use Rattle.vt_workers.specs.Jobs.{Job}
-use Rattle.vt_workers.specs.All.{AllReady}
-use Rattle.vt_loaders.specs.declared.queued.Queues.{Queues}
+use Rattle.vt_word_workers.specs.Fills.{words_in}
+use Rattle.vt_word_workers.specs.Views.{StreamerView, IsStreamerOf}
+use Rattle.vt_machine.specs.Jobs.{Job}
+use Rattle.vt_machine.specs.All.{AllReady}
+use Rattle.vt_load.specs.declared.queued.Queues.{Queues}
 use Rattle.vt_machine.specs.declared.crew.Crew.{Crew}
 use Rattle.vt_machine.specs.Machines.{told_by}
 use Rattle.vt_machine.specs.Passes.{MapsRoot, MayPlace, IsJobFor, IsUntouched, IsSpent}
@@ -32,8 +32,8 @@ use Rattle.vt_word_workers.specs.Stored.{AreStored}
 use Rattle.vt_word_workers.proofs.Growing.{stored_grow}
 use Rattle.vt_word_workers.specs.declared.workers.WordStreamer.{WordStreamer}
 use Rattle.vt_word_workers.specs.Kits.{AreAllIn}
-use Rattle.vt_word_workers.proofs.Rooms.{told_same, files_same}
-use Rattle.vt_stream_kit.specs.StreamKits.{StreamKitView, IsStreamKit, IsSameStream}
+use Rattle.vt_word_workers.proofs.StoreRooms.{told_same, files_same}
+use Rattle.vt_word_workers.specs.StreamKits.{StreamKitView, IsStreamKit, IsSameStream}
 use Rattle.vt_pass.specs.Placed.{HasPlaced}
 use Rattle.vt_shared_rows.specs.declared.bag.RowBag.{RowBag}
 use Rattle.vt_steal.specs.declared.row_kit.RowKit.{RowKit}

@@ -7,11 +7,11 @@ use Rattle.std.proofs.lemmas.List.FromFn.{length-range_with_len, get_or-range_wi
 use Rattle.std.proofs.lemmas.List.Elements.{Contains-append_left, Contains-append_right, Contains-append_cases}
 use Rattle.std.proofs.lemmas.List.Sorted.{Contains-permutation}
 use Rattle.std.proofs.lemmas.Option.{none-some, same_Some}
-use Rattle.vt_loaders.specs.QueueTypes.views.PassView.{PassView}
-use Rattle.vt_loaders.specs.PassViews.{all_shares}
-use Rattle.vt_loaders.specs.Orders.{items_of}
-use Rattle.vt_loaders.specs.Steps.{IsAtStep}
-use Rattle.vt_loaders.proofs.Gathered.{append_nil}
+use Rattle.vt_load.specs.QueueTypes.views.PassView.{PassView}
+use Rattle.vt_load.specs.PassViews.{all_shares}
+use Rattle.vt_load.specs.Orders.{items_of}
+use Rattle.vt_load.specs.Steps.{IsAtStep}
+use Rattle.vt_load.proofs.Gathered.{append_nil}
 use Rattle.vt_shared_rows.specs.declared.bag.RowJob.{RowJob}
 use Rattle.vt_shared_rows.specs.declared.bag.RowBag.{RowBag}
 use Rattle.vt_shared_rows.specs.declared.bag.BagPass.{BagPass}

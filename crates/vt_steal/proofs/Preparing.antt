@@ -5,19 +5,19 @@ use Rattle.vt_pages.specs.Shape.{Shape}
 use Rattle.vt_journal.specs.Changes.{newest}
 use Rattle.vt_grace.specs.declared.views.WriterView.{WriterView}
 use Rattle.vt_grace.specs.Values.{WordsValue}
-use Rattle.vt_streamer.specs.Views.{StreamerView, IsStreamerOf}
+use Rattle.vt_word_workers.specs.Views.{StreamerView, IsStreamerOf}
 use Rattle.vt_plan.specs.declared.batches.Planned.{Planned}
-use Rattle.vt_loaders.specs.QueueTypes.queue.QueuePass.{QueuePass}
-use Rattle.vt_loaders.specs.QueueTypes.items.Loaded.{Loaded}
-use Rattle.vt_loaders.specs.declared.queued.Queues.{Queues}
+use Rattle.vt_load.specs.QueueTypes.queue.QueuePass.{QueuePass}
+use Rattle.vt_load.specs.QueueTypes.items.Loaded.{Loaded}
+use Rattle.vt_load.specs.declared.queued.Queues.{Queues}
 use Rattle.vt_machine.specs.declared.crew.Crew.{Crew}
 use Rattle.vt_machine.specs.Machines.{told_by}
 use Rattle.vt_machine.specs.Outcomes.{IsBatchFor}
 use Rattle.vt_word_workers.specs.Stored.{AreStored}
-use Rattle.vt_word_workers.specs.StreamingTypes.report.StreamReport.{StreamReport}
+use Rattle.vt_word_workers.specs.RequestsTypes.report.StreamReport.{StreamReport}
 use Rattle.vt_word_workers.specs.GivenPasses.{HaveNewPasses, HasGiven}
-use Rattle.vt_word_workers.proofs.Rooms.{told_same}
-use Rattle.vt_stream_kit.specs.StreamKits.{StreamKitView, IsAskedStream, IsSameStream}
+use Rattle.vt_word_workers.proofs.StoreRooms.{told_same}
+use Rattle.vt_word_workers.specs.StreamKits.{StreamKitView, IsAskedStream, IsSameStream}
 use Rattle.vt_shared_rows.specs.declared.bag.RowBag.{RowBag}
 use Rattle.vt_steal.specs.declared.row_kit.RowKit.{RowKit}
 use Rattle.vt_steal.specs.RowKits.{samplers_of, IsSharedKit}

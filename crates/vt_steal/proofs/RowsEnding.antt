@@ -12,10 +12,10 @@ use Rattle.vt_grace.specs.declared.views.WriterView.{WriterView}
 use Rattle.vt_grace.specs.Sound.{IsSound}
 use Rattle.vt_grace.specs.Values.{WordsValue}
 use Rattle.vt_grace.specs.WriterViews.{is_out}
-use Rattle.vt_streamer.specs.Views.{StreamerView, IsStreamerOf}
+use Rattle.vt_word_workers.specs.Views.{StreamerView, IsStreamerOf}
 use Rattle.vt_pictures.specs.Scenes.{Scene}
-use Rattle.vt_loaders.specs.QueueTypes.views.PassView.{PassView}
-use Rattle.vt_loaders.specs.Steps.{IsAtStep}
+use Rattle.vt_load.specs.QueueTypes.views.PassView.{PassView}
+use Rattle.vt_load.specs.Steps.{IsAtStep}
 use Rattle.vt_word_workers.specs.GivenPasses.{all_returned, without_passes}
 use Rattle.vt_word_workers.proofs.Returned.{have_returned, have_noted}
 use Rattle.vt_shared_rows.specs.declared.bag.RowJob.{RowJob}
@@ -30,7 +30,7 @@ use Rattle.vt_steal.specs.RowEnds.{kept_rows, lines_of, MayEndRows, IsRowOfPass,
 use Rattle.vt_steal.specs.Placing.{ArePlaced, counted_by, all_rows_joined, ended_task}
 use Rattle.vt_steal.proofs.EndedRows.{returned_ended, counted_ended, samplers_stay, all_in, each_once, counted, counts_low, rows_of_pass, in_place, rising, rows_noted}
 use Rattle.std.proofs.lemmas.Option.{slice_get_within, get_or_from_slice_get}
-use Rattle.vt_draw.specs.Shots.{shot_row}
+use Rattle.vt_pictures.specs.Shots.{shot_row}
 use Rattle.vt_pictures.specs.Evidence.{AreShown}
 use Rattle.vt_word_workers.specs.Noted.{IsAmong}
 use Rattle.vt_steal.proofs.Lists.{made_of}

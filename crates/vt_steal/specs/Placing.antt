@@ -1,7 +1,7 @@
 -- Rows that are put into the places of their numbers, and passes of a bag that are made one.
 use Rattle.std.specs.Prelude.{◌≡◌, ◌≢◌, ℕ, ◌+◌, ◌<◌, ◌⊎◌, Option, Some, None, IfSome, List, [], ◌∷◌, length, slice_index, slice_index_or, sum_by, All, Contains}
-use Rattle.vt_loaders.specs.QueueTypes.views.PassView.{PassView}
-use Rattle.vt_loaders.specs.PassViews.{joined}
+use Rattle.vt_load.specs.QueueTypes.views.PassView.{PassView}
+use Rattle.vt_load.specs.PassViews.{joined}
 use Rattle.vt_shared_rows.specs.declared.bag.RowJob.{RowJob}
 use Rattle.vt_shared_rows.specs.declared.bag.RowBag.{RowBag}
 use Rattle.vt_shared_rows.specs.declared.bag.BagPass.{BagPass}

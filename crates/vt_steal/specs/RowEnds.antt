@@ -4,7 +4,7 @@ use Rattle.std.specs.List.{range_with_len}
 use Rattle.vt_pages.specs.Shape.{Shape}
 use Rattle.vt_pages.specs.Pages.{pages_of}
 use Rattle.vt_camera.specs.Paths.{PathView}
-use Rattle.vt_draw.specs.Shots.{shot_row}
+use Rattle.vt_pictures.specs.Shots.{shot_row}
 use Rattle.vt_journal.specs.declared.changes.RowLine.{RowLine}
 use Rattle.vt_pictures.specs.declared.filters.Filter.{Ghosts as FilterMeanings}
 use Rattle.vt_pictures.specs.Evidence.{AreShown}
@@ -14,9 +14,9 @@ use Rattle.vt_grace.specs.declared.views.WriterView.{WriterView}
 use Rattle.vt_grace.specs.declared.views.Returned.{Returned}
 use Rattle.vt_grace.specs.WriterViews.{version_of}
 use Rattle.vt_grace.specs.Values.{WordsValue}
-use Rattle.vt_streamer.specs.Views.{StreamerView, IsStreamerOf}
+use Rattle.vt_word_workers.specs.Views.{StreamerView, IsStreamerOf}
 use Rattle.vt_word_workers.specs.Noted.{IsNotedBy, AreNotedRows}
-use Rattle.vt_workers.specs.All.{AllDid}
+use Rattle.vt_machine.specs.All.{AllDid}
 use Rattle.vt_word_workers.specs.GivenPasses.{HaveNewPasses, all_returned}
 use Rattle.vt_word_workers.specs.HeldPasses.{IsHeldRow}
 use Rattle.vt_word_workers.specs.Kits.{AreAllIn}

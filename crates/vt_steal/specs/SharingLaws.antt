@@ -6,10 +6,10 @@ use Rattle.vt_outside.specs.declared.answers.NoMemory.{NoMemory}
 use Rattle.vt_pictures.specs.declared.filters.Filter.{Ghosts as FilterMeanings}
 use Rattle.vt_tiles.specs.StoreViews.{StoreView}
 use Rattle.vt_grace.specs.Values.{WordsValue}
-use Rattle.vt_loaders.specs.declared.queued.Queues.{Queues}
-use Rattle.vt_loaders.specs.QueuedLoaders.{QueuedView, HasLoaded, stores_of}
-use Rattle.vt_workers.specs.Jobs.{Job}
-use Rattle.vt_workers.specs.All.{AllDid}
+use Rattle.vt_load.specs.declared.queued.Queues.{Queues}
+use Rattle.vt_load.specs.QueuedLoaders.{QueuedView, HasLoaded, stores_of}
+use Rattle.vt_machine.specs.Jobs.{Job}
+use Rattle.vt_machine.specs.All.{AllDid}
 use Rattle.vt_machine.specs.declared.crew.PassReport.{PassReport}
 use Rattle.vt_machine.specs.Machines.{files_of, told_by}
 use Rattle.vt_machine.specs.Passes.{IsJobFor, IsUntouched}
@@ -18,8 +18,8 @@ use Rattle.vt_word_workers.specs.WordTasks.{HasFed}
 use Rattle.vt_word_workers.specs.GivenPasses.{HaveNewPasses}
 use Rattle.vt_pass.specs.WordLaws.{ends_after}
 use Rattle.vt_pass.specs.WordLaws as word_laws
-use Rattle.vt_stream_kit.specs.StreamKits.{StreamKitView, AreLoadersOut, stream_before}
-use Rattle.vt_stream_kit.specs.StreamBacks.{round, stream_begun, stream_back}
+use Rattle.vt_word_workers.specs.StreamKits.{StreamKitView, AreLoadersOut, stream_before}
+use Rattle.vt_word_workers.specs.StreamBacks.{round, stream_begun, stream_back}
 use Rattle.vt_shared_rows.specs.declared.bag.RowBag.{RowBag}
 use Rattle.vt_steal.specs.declared.row_kit.RowKit.{RowKit}
 use Rattle.vt_steal.specs.RowTasks.{RowTask, HasDrawnShared}

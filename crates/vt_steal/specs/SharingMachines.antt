@@ -7,11 +7,11 @@ use Rattle.vt_pictures.specs.declared.filters.Filter.{Ghosts as FilterMeanings}
 use Rattle.vt_journal.specs.declared.changes.Change.{Change}
 use Rattle.vt_journal.specs.Changes.{newest}
 use Rattle.vt_grace.specs.Values.{WordsValue}
-use Rattle.vt_streamer.specs.Views.{StreamerView, IsStreamerOf}
+use Rattle.vt_word_workers.specs.Views.{StreamerView, IsStreamerOf}
 use Rattle.vt_plan.specs.declared.batches.Planned.{Planned}
-use Rattle.vt_loaders.specs.declared.queued.Queues.{Queues}
-use Rattle.vt_loaders.specs.QueuedLoaders.{QueuedView}
-use Rattle.vt_workers.specs.Jobs.{Job}
+use Rattle.vt_load.specs.declared.queued.Queues.{Queues}
+use Rattle.vt_load.specs.QueuedLoaders.{QueuedView}
+use Rattle.vt_machine.specs.Jobs.{Job}
 use Rattle.vt_machine.specs.declared.crew.PassReport.{PassReport}
 use Rattle.vt_machine.specs.Drawings.{Drawing, drawing_of}
 use Rattle.vt_machine.specs.Machines.{Setup, MachineState, files_of, told_by}
@@ -22,7 +22,7 @@ use Rattle.vt_word_workers.specs.declared.workers.WordStreamer.{WordStreamer}
 use Rattle.vt_word_workers.specs.WordTasks.{HasFed}
 use Rattle.vt_word_workers.specs.GivenPasses.{HaveNewPasses}
 use Rattle.vt_word_workers.specs.Kits.{AreAllIn}
-use Rattle.vt_stream_kit.specs.StreamKits.{StreamKitView, IsStreamKit, IsAskedStream, AreLoadersOut, StreamBegun, stream_before, MayEndStream, HasEndedStream}
+use Rattle.vt_word_workers.specs.StreamKits.{StreamKitView, IsStreamKit, IsAskedStream, AreLoadersOut, StreamBegun, stream_before, MayEndStream, HasEndedStream}
 use Rattle.vt_shared_rows.specs.declared.bag.RowBag.{RowBag}
 use Rattle.vt_steal.specs.declared.row_kit.RowKit.{RowKit}
 use Rattle.vt_steal.specs.RowTasks.{RowTask}

@@ -12,15 +12,13 @@ ghost use Rattle.vt_steal.specs.Placing.{IsInside, ArePlaced, counted_by, joined
 use crate::row_kit::{RowKit, RowTask};
 use std::mem;
 use std::sync::Wait;
-use vt_draw::Shot;
 use vt_feedback::Counts;
 use vt_grace::Words;
 use vt_journal::{RowLine, RowLines};
 use vt_outside::Items;
-use vt_pictures::Filter;
+use vt_pictures::{Filter, Shot};
 use vt_shared_rows::{BagPass, RowBag, RowJob};
-use vt_streamer::Streamer;
-use vt_word_workers::return_passes;
+use vt_word_workers::{Streamer, return_passes};
 
 // Puts the rows that a sampler keeps into the places of their numbers.
 fn place_rows(kept: &mut Items<RowJob>, drawn: &mut [RowJob])

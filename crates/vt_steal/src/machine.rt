@@ -4,10 +4,10 @@ ghost use Rattle.std.specs.Prelude.{◌≡◌, [], IsOk, IfOk, OnOk, OnErr};
 ghost use Rattle.vt_definitions.specs.Depths.{IsDepth};
 ghost use Rattle.vt_grace.specs.Sizes.{sizes_of};
 ghost use Rattle.vt_grace.specs.WriterViews.{first_writer};
-ghost use Rattle.vt_streamer.specs.Views.{IsStreamerOf};
+ghost use Rattle.vt_word_workers.specs.Views.{IsStreamerOf};
 ghost use Rattle.vt_machine.specs.Crews.{IsCrew, AreFrames};
 ghost use Rattle.vt_machine.specs.Machines.{AreStoresFor};
-ghost use Rattle.vt_workers.specs.Jobs.{job_of};
+ghost use Rattle.vt_machine.specs.Jobs.{job_of};
 ghost use Rattle.vt_steal.specs.SharingMachines.{SharingView, sharing_of, sharing_state, IsIdleBy, IsReadyBy, drawn_by, AreOut, Begun, MayFinish, SharingFinishes, held_by};
 
 use crate::passes::{end_pass, prepare_pass};
@@ -19,21 +19,18 @@ use std::mem;
 use std::sync::Wait;
 use std::thread::Threads;
 use vt_camera::Path;
-use vt_draw::Shot;
 use vt_evict::Batch;
 use vt_feedback::Counts;
 use vt_journal::Journal;
-use vt_loaders::QueuedLoader;
+use vt_load::QueuedLoader;
 use vt_machine::{Crew, PassMachine, PassReport};
 use vt_outside::{File, Gate, Items, NoMemory};
 use vt_pages::Geometry;
 use vt_pass::place_page;
-use vt_pictures::{Filter, Nearest};
-use vt_requests::answered;
+use vt_pictures::{Filter, Nearest, Shot};
 use vt_shared_rows::RowBag;
-use vt_stream_kit::StreamKit;
 use vt_tiles::Stores;
-use vt_word_workers::{WordShared, WordStreamer, new_parts};
+use vt_word_workers::{StreamKit, WordShared, WordStreamer, answered, new_parts};
 
 /// A machine that draws the rows of a picture by a filter, each under a version that its sampler holds meanwhile, where each sampler takes the
 /// next row when it has drawn the last; and that streams the batch at the same time.

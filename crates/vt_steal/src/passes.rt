@@ -4,22 +4,20 @@ ghost use Rattle.std.specs.Prelude.{◌≡◌, ◌≤◌, OnOk, length};
 ghost use Rattle.vt_journal.specs.Changes.{newest};
 ghost use Rattle.vt_machine.specs.Crews.{last_start};
 ghost use Rattle.vt_machine.specs.Outcomes.{IsBatchFor};
-ghost use Rattle.vt_workers.specs.Jobs.{job_of};
-ghost use Rattle.vt_stream_kit.specs.StreamKits.{IsSameStream};
+ghost use Rattle.vt_machine.specs.Jobs.{job_of};
+ghost use Rattle.vt_word_workers.specs.StreamKits.{IsSameStream};
 ghost use Rattle.vt_steal.specs.SharingMachines.{IsIdleSharing, IsReadySharing, Begun, MayFinish, HasFinished};
 
 use crate::row_kit::{RowKit, RowTask};
 use crate::shared::SharingShared;
 use std::sync::Wait;
 use std::thread::Threads;
-use vt_draw::Shot;
 use vt_evict::Batch;
-use vt_loaders::QueuedLoader;
+use vt_load::QueuedLoader;
 use vt_machine::PassReport;
 use vt_outside::{File, Items, NoMemory};
-use vt_pictures::Filter;
-use vt_stream_kit::StreamKit;
-use vt_word_workers::WordStreamer;
+use vt_pictures::{Filter, Shot};
+use vt_word_workers::{StreamKit, WordStreamer};
 
 /// Makes all room for a pass that streams a batch, puts its requests into new queues and the rows into a new bag, and gives the samplers their
 /// passes. It may wait.

@@ -8,15 +8,14 @@ use std::marker::PhantomData;
 use std::mem;
 use std::sync::Wait;
 use std::thread::Threads;
-use vt_draw::Shot;
 use vt_grace::Words;
-use vt_loaders::{QueuedLoader, Queues};
+use vt_load::{QueuedLoader, Queues};
+use vt_machine::Task;
 use vt_outside::{File, Gate};
-use vt_pictures::Filter;
+use vt_pictures::{Filter, Shot};
 use vt_plan::Planned;
 use vt_shared_rows::RowBag;
 use vt_word_workers::{WordStreamer, stream_own};
-use vt_workers::Task;
 
 /// What the workers of a pass whose rows are shared have in common.
 #[derive(Drop)]
@@ -58,7 +57,7 @@ fn draw_own<Rt: Wait, P: Filter, G: Gate>(
 }
 
 impl<F: File, P: Filter + Sync> Task<SharingShared<P>> for QueuedLoader<F> {
-    ghost use Rattle.vt_loaders.specs.QueuedLoaders.{MayLoad, HasLoaded};
+    ghost use Rattle.vt_load.specs.QueuedLoaders.{MayLoad, HasLoaded};
 
     ghost ready = { λ shared job loader. MayLoad F.File shared.queues loader };
 

@@ -1,9 +1,9 @@
 //! The rows of a picture are put into a bag, of which each sampler gets a pass.
 
 ghost use Rattle.std.specs.Prelude.{◌≡◌, [], ◌∷◌, ◌++◌, OnOk, length};
-ghost use Rattle.vt_loaders.specs.PassViews.{first_view, pass_view, all_shares};
-ghost use Rattle.vt_loaders.specs.Orders.{placed};
-ghost use Rattle.vt_streamer.specs.Views.{IsStreamerOf};
+ghost use Rattle.vt_load.specs.PassViews.{first_view, pass_view, all_shares};
+ghost use Rattle.vt_load.specs.Orders.{placed};
+ghost use Rattle.vt_word_workers.specs.Views.{IsStreamerOf};
 ghost use Rattle.vt_shared_rows.specs.declared.bag.RowBag.{RowBag as Bag};
 ghost use Rattle.vt_shared_rows.specs.Bags.{view_of, IsOf};
 ghost use Rattle.vt_word_workers.specs.GivenPasses.{HaveNewPasses, HasGiven};
@@ -17,8 +17,7 @@ use std::sync::Wait;
 use vt_grace::Words;
 use vt_outside::{Items, NoMemory};
 use vt_shared_rows::{BagPass, RowBag, RowJob};
-use vt_streamer::Streamer;
-use vt_word_workers::{give_passes, with_room};
+use vt_word_workers::{Streamer, give_passes, with_room};
 
 // What is in the place of a row that lies in a bag.
 fn no_row(alloc: Global) -> RowJob {

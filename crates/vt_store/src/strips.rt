@@ -21,7 +21,7 @@ use vt_definitions::texel_length;
 use vt_mip::{Halving, StripChain};
 use vt_outside::{File, Folder, NoMemory};
 use vt_pages::Geometry;
-use vt_parts::processors;
+use vt_threads::processors;
 use vt_tiles::StoreError;
 
 // How many strips a texture is read in: one for each row of tiles of level 0.

@@ -17,7 +17,7 @@ use vt_definitions::texel_length;
 use vt_mip::Chain;
 use vt_outside::{Folder, OutsideError};
 use vt_pages::Geometry;
-use vt_parts::threads_for;
+use vt_threads::threads_for;
 use vt_tiles::{StoreError, header_of, put_span, rows_above, tile_length};
 
 // Writes one line of so many tiles that lie side by side, from a row of texels of `size` bytes and a column of tiles on.

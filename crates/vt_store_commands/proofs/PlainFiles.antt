@@ -15,8 +15,8 @@ use Rattle.vt_draw.proofs.Drawn.{length-first_rows}
 use Rattle.vt_draw.proofs.PartsDrawn.{row_put}
 use Rattle.vt_plain_bilinear.specs.Plain.{plain_blends}
 use Rattle.vt_plain_bilinear.proofs.PlainBlends.{length-rows}
-use Rattle.vt_words.specs.declared.filters.Filtering.{Filtering}
-use Rattle.vt_words.specs.declared.filters.Filtering.TheVariants.{Nearest, Bilinear}
+use Rattle.vt_command_words.specs.declared.filters.Filtering.{Filtering}
+use Rattle.vt_command_words.specs.declared.filters.Filtering.TheVariants.{Nearest, Bilinear}
 use Rattle.vt_tiles.proofs.Spans.{span_add, span_length}
 use Rattle.vt_store_commands.specs.declared.plain_files.PlainPictures.{PlainPictures}
 use Rattle.vt_store_commands.specs.PlainFiles.{AreWanted, samples_with, file_of, files_between, file_size, HasHeader, IsRoomForFiles, HasRoom, HoldsFiles}

@@ -1,10 +1,10 @@
 -- Pictures that are written a group at a time.
 use Rattle.std.proofs.Common.{◌≡◌, ℕ, ◌+◌, ◌-◌, ◌*◌, ◌<◌, ◌≤◌, List, Ok, length, subst, arith}
 use Rattle.std.proofs.Math.Nat.{mul-le-mul_left}
-use Rattle.vt_files.specs.Effects.{FolderState}
-use Rattle.vt_files.specs.Expectations.{Writes}
-use Rattle.vt_files.specs.Pictures.{expected_pictures}
-use Rattle.vt_files.proofs.Writing.{HasPictures, no_pictures}
+use Rattle.vt_outside.specs.Effects.{FolderState}
+use Rattle.vt_outside.specs.Expectations.{Writes}
+use Rattle.vt_plain_bilinear.specs.Pictures.{expected_pictures}
+use Rattle.vt_plain_bilinear.proofs.WrittenPictures.{HasPictures, no_pictures}
 use Rattle.vt_store_commands.specs.declared.plain_files.PlainPictures.{PlainPictures}
 use Rattle.vt_store_commands.specs.PlainFiles.{file_of, file_size, HasHeader, HasRoom, HoldsFiles}
 

@@ -19,12 +19,12 @@ use Rattle.vt_draw.specs.declared.plain.Levels.{Levels}
 use Rattle.vt_draw.specs.Plain.{camera_at, chain_of, levels_from, plain_picture, surface_of}
 use Rattle.vt_draw.proofs.WantedLevels.{later_levels, whole_levels}
 use Rattle.vt_plain_bilinear.specs.Plain.{plain_blends}
-use Rattle.vt_files.specs.Effects.{CallEffect, FolderEffect}
-use Rattle.vt_files.specs.Expectations.{ExpectedFile, IsWrittenPrefix, IsPart, Leaves, Writes, with_files}
-use Rattle.vt_files.specs.Pictures.{expected_pictures}
-use Rattle.vt_files.proofs.Writing.{part_none}
-use Rattle.vt_words.specs.declared.filters.Filtering.{Filtering}
-use Rattle.vt_words.specs.declared.filters.Filtering.TheVariants.{Nearest, Bilinear}
+use Rattle.vt_outside.specs.Effects.{CallEffect, FolderEffect}
+use Rattle.vt_outside.specs.Expectations.{ExpectedFile, IsWrittenPrefix, IsPart, Leaves, Writes, with_files}
+use Rattle.vt_plain_bilinear.specs.Pictures.{expected_pictures}
+use Rattle.vt_outside.proofs.Writing.{part_none}
+use Rattle.vt_command_words.specs.declared.filters.Filtering.{Filtering}
+use Rattle.vt_command_words.specs.declared.filters.Filtering.TheVariants.{Nearest, Bilinear}
 use Rattle.vt_store_commands.specs.PlainFiles.{AreWanted, file_with}
 use Rattle.vt_store_commands.specs.SeenTextures.{HasSides, IsEnough, seen_file, seen_surface}
 use Rattle.vt_store_commands.specs.declared.seen_textures.Seen.{Seen}

@@ -25,14 +25,14 @@ use Rattle.vt_camera.specs.Paths.{PathView}
 use Rattle.vt_camera.specs.Rows.{row_of, row_level}
 use Rattle.vt_draw.specs.Plain.{camera_at, chain_of, levels_from, plain_picture, plain_samples, surface_of}
 use Rattle.vt_draw.proofs.WantedLevels.{levels_whole, pictures_go_on}
-use Rattle.vt_files.specs.Effects.{FolderState}
-use Rattle.vt_command_base.specs.Inputs.{TextureInput, TextureContent, AreStrips}
-use Rattle.vt_command_base.specs.Reads.{FileState, Took, OpensTexture, Closed, Refused, IsAsked, IsCausedBy}
-use Rattle.vt_command_base.specs.Refusals.{cause_of}
-use Rattle.vt_command_base.proofs.OpenWriting.{closed_places, rise}
-use Rattle.vt_command_base.proofs.Seeing.{texture_there, strips_asked}
-use Rattle.vt_words.specs.declared.filters.Filtering.{Filtering}
-use Rattle.vt_words.specs.declared.filters.Filtering.TheVariants.{Nearest, Bilinear}
+use Rattle.vt_outside.specs.Effects.{FolderState}
+use Rattle.vt_command_inputs.specs.Inputs.{TextureInput, TextureContent, AreStrips}
+use Rattle.vt_command_inputs.specs.Reads.{FileState, Took, OpensTexture, Closed, Refused, IsAsked, IsCausedBy}
+use Rattle.vt_command_inputs.specs.Refusals.{cause_of}
+use Rattle.vt_command_inputs.proofs.OpenWriting.{closed_places, rise}
+use Rattle.vt_command_inputs.proofs.Seeing.{texture_there, strips_asked}
+use Rattle.vt_command_words.specs.declared.filters.Filtering.{Filtering}
+use Rattle.vt_command_words.specs.declared.filters.Filtering.TheVariants.{Nearest, Bilinear}
 use Rattle.vt_store_commands.specs.Pictures.{plain_file}
 use Rattle.vt_store_commands.specs.SeenTextures.{IsEnough, IsOf, seen_file, seen_surface}
 use Rattle.vt_store_commands.specs.declared.seen_textures.Seen.{Seen}

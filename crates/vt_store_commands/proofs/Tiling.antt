@@ -16,19 +16,19 @@ use Rattle.vt_pages.specs.Pages.{refusal_of, pages_of}
 use Rattle.vt_pages.specs.declared.PagesError.{PagesError}
 use Rattle.vt_pages.specs.declared.PagesError.TheVariants as pages_error
 use Rattle.vt_ppm.specs.StripPlaces.{StripsTried, strip_place, strip_places}
-use Rattle.vt_files.specs.Effects.{FolderState}
-use Rattle.vt_files.specs.Expectations.{Writes}
-use Rattle.vt_command_base.specs.Inputs.{TiledTexture, TextureContent, AreStrips}
-use Rattle.vt_command_base.specs.OpenWrites.{WritesMade}
-use Rattle.vt_command_base.specs.Reads.{FileState, Took, OpensTexture, Closed, Refused, IsCausedBy}
+use Rattle.vt_outside.specs.Effects.{FolderState}
+use Rattle.vt_outside.specs.Expectations.{Writes}
+use Rattle.vt_command_inputs.specs.Inputs.{TiledTexture, TextureContent, AreStrips}
+use Rattle.vt_command_inputs.specs.OpenWrites.{WritesMade}
+use Rattle.vt_command_inputs.specs.Reads.{FileState, Took, OpensTexture, Closed, Refused, IsCausedBy}
 use Rattle.vt_store_commands.specs.commands.Tile.{flaw_of_pages, made_store, expected_store, store_file, IsTooMany}
-use Rattle.vt_command_base.specs.declared.flaws.Flaw.{Flaw}
-use Rattle.vt_command_base.specs.declared.flaws.Flaw.TheVariants as flaws
-use Rattle.vt_command_base.specs.declared.refusal.Refusal.{Refusal}
-use Rattle.vt_command_base.specs.declared.refusal.Refusal.TheVariants.{NoMemory, Usage, Fault, Flawed, TooFewFrames, DoesNotFit}
-use Rattle.vt_command_base.proofs.OpenWriting.{read_first, expected_written, expected_stopped}
-use Rattle.vt_command_base.proofs.Reading.{gains_none}
-use Rattle.vt_command_base.proofs.Seeing.{texture_there, strips_asked}
+use Rattle.vt_command_inputs.specs.declared.flaws.Flaw.{Flaw}
+use Rattle.vt_command_inputs.specs.declared.flaws.Flaw.TheVariants as flaws
+use Rattle.vt_command_inputs.specs.declared.refusal.Refusal.{Refusal}
+use Rattle.vt_command_inputs.specs.declared.refusal.Refusal.TheVariants.{NoMemory, Usage, Fault, Flawed, TooFewFrames, DoesNotFit}
+use Rattle.vt_command_inputs.proofs.OpenWriting.{read_first, expected_written, expected_stopped}
+use Rattle.vt_command_inputs.proofs.Reading.{gains_none}
+use Rattle.vt_command_inputs.proofs.Seeing.{texture_there, strips_asked}
 
 -- a geometry is refused for too many pages
 IsMany : PagesError → Type 0

@@ -13,15 +13,15 @@ use Rattle.vt_tiles.specs.Places.{FrontAsked, PiecesAsked, pieces_of, piece_plac
 use Rattle.vt_tiles.specs.StoreViews.{IsStore}
 use Rattle.vt_tiles.specs.Made.{HoldsMade, HoldsMadeFront}
 use Rattle.vt_store.specs.Widening.{HoldsWidened, HoldsFront}
-use Rattle.vt_files.specs.Effects.{FolderState}
-use Rattle.vt_files.specs.Expectations.{Writes}
-use Rattle.vt_command_base.specs.Inputs.{NarrowStore, NarrowContent, AsksPieces, ArePieces, header_places}
-use Rattle.vt_command_base.specs.HeldInputs.{Holds}
-use Rattle.vt_command_base.specs.OpenWrites.{WritesMade}
-use Rattle.vt_command_base.specs.Reads.{FileState, Took, OpensStore, Closed}
+use Rattle.vt_outside.specs.Effects.{FolderState}
+use Rattle.vt_outside.specs.Expectations.{Writes}
+use Rattle.vt_command_inputs.specs.Inputs.{NarrowStore, NarrowContent, AsksPieces, ArePieces, header_places}
+use Rattle.vt_command_inputs.specs.HeldInputs.{Holds}
+use Rattle.vt_command_inputs.specs.OpenWrites.{WritesMade}
+use Rattle.vt_command_inputs.specs.Reads.{FileState, Took, OpensStore, Closed}
 use Rattle.vt_store_commands.specs.commands.Upgrade.{upgraded_file, expected_wide}
-use Rattle.vt_command_base.proofs.OpenWriting.{read_first, made_written, made_stopped, expected_written, expected_stopped}
-use Rattle.vt_command_base.proofs.Reading.{placed}
+use Rattle.vt_command_inputs.proofs.OpenWriting.{read_first, made_written, made_stopped, expected_written, expected_stopped}
+use Rattle.vt_command_inputs.proofs.Reading.{placed}
 
 -- the pieces that were asked
 front_of : (shape : Shape) (before after : Option (List Place)) → FrontAsked shape 1 before after

@@ -5,8 +5,8 @@ use Rattle.vt_ppm.specs.Picture.{picture_bytes}
 use Rattle.vt_camera.specs.Paths.{PathView}
 use Rattle.vt_draw.specs.Plain.{plain_samples}
 use Rattle.vt_plain_bilinear.specs.Plain.{plain_blends}
-use Rattle.vt_words.specs.declared.filters.Filtering.{Filtering}
-use Rattle.vt_words.specs.declared.filters.Filtering.TheVariants.{Nearest, Bilinear}
+use Rattle.vt_command_words.specs.declared.filters.Filtering.{Filtering}
+use Rattle.vt_command_words.specs.declared.filters.Filtering.TheVariants.{Nearest, Bilinear}
 
 -- the samples of the plain picture by a filter
 abbrev pub samples_by : Filtering → ImageView → ℕ → PathView → ℕ → List ℕ

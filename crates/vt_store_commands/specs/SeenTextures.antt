@@ -12,15 +12,15 @@ use Rattle.vt_camera.specs.Paths.{PathView}
 use Rattle.vt_camera.specs.Rows.{IsSurface, row_of, row_level}
 use Rattle.vt_draw.specs.Plain.{camera_at, chain_of, levels_from, plain_picture}
 use Rattle.vt_plain_bilinear.specs.Plain.{plain_blends}
-use Rattle.vt_files.specs.Effects.{FolderEffect}
-use Rattle.vt_files.specs.Pictures.{expected_pictures}
-use Rattle.vt_files.specs.Expectations.{Expected}
-use Rattle.vt_command_base.specs.Inputs.{TextureInput, TextureContent}
-use Rattle.vt_command_base.specs.Lines.{end_line}
-use Rattle.vt_command_base.specs.Reads.{Took}
+use Rattle.vt_outside.specs.Effects.{FolderEffect}
+use Rattle.vt_plain_bilinear.specs.Pictures.{expected_pictures}
+use Rattle.vt_outside.specs.Expectations.{Expected}
+use Rattle.vt_command_inputs.specs.Inputs.{TextureInput, TextureContent}
+use Rattle.vt_command_inputs.specs.Lines.{end_line}
+use Rattle.vt_command_inputs.specs.Reads.{Took}
 use Rattle.vt_store_commands.specs.Pictures.{plain_file}
-use Rattle.vt_words.specs.declared.filters.Filtering.{Filtering}
-use Rattle.vt_words.specs.declared.filters.Filtering.TheVariants.{Nearest, Bilinear}
+use Rattle.vt_command_words.specs.declared.filters.Filtering.{Filtering}
+use Rattle.vt_command_words.specs.declared.filters.Filtering.TheVariants.{Nearest, Bilinear}
 use Rattle.vt_store_commands.specs.declared.seen_textures.Seen.{Seen}
 
 -- the whole texture as a camera sees it, down to the level that a tile of this side holds

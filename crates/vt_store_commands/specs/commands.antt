@@ -8,9 +8,9 @@ use Rattle.std.specs.Prelude.{ℕ, List, Option, Some, None, option_map, codes, 
 use Rattle.std.specs.Str.{bytes_eq}
 use Rattle.clap.specs.Words.{Row, Rule, Text}
 use Rattle.vt_definitions.specs.Tiles.{IsTileSide}
-use Rattle.vt_words.specs.Reading.{asked_by}
-use Rattle.vt_command_base.specs.Tasks.{Task}
-use Rattle.vt_command_base.specs.CommandSpecs.{CommandSpec, task_spec}
+use Rattle.vt_command_words.specs.Reading.{asked_by}
+use Rattle.vt_command_inputs.specs.Tasks.{Task}
+use Rattle.vt_command_inputs.specs.CommandSpecs.{CommandSpec, task_spec}
 use Rattle.vt_store_commands.specs.commands.Plain.{PlainText, plain_rules, plain_values, shown_plain, plain_task}
 use Rattle.vt_store_commands.specs.commands.Tile.{TileText, tile_rules, tile_values, shown_tile, tile_task}
 use Rattle.vt_store_commands.specs.commands.Info.{InfoText, info_rules, info_values, shown_info, info_task}

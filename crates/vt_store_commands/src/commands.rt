@@ -2,10 +2,10 @@
 
 ghost use Rattle.std.specs.Prelude.{◌≡◌, true, IfSome, map, option_map};
 ghost use Rattle.clap.specs.Words.{rows_of, found_of};
-ghost use Rattle.vt_words.specs.Arguments.{rule_for, are_simple, texts};
-ghost use Rattle.vt_words.specs.Reading.{IsAnswer};
-ghost use Rattle.vt_files.specs.Effects.{call_effect};
-ghost use Rattle.vt_command_base.specs.CommandSpecs.{EndsBy};
+ghost use Rattle.vt_command_words.specs.Arguments.{rule_for, are_simple, texts};
+ghost use Rattle.vt_command_words.specs.Reading.{IsAnswer};
+ghost use Rattle.vt_outside.specs.Effects.{call_effect};
+ghost use Rattle.vt_command_inputs.specs.CommandSpecs.{EndsBy};
 ghost use Rattle.vt_store_commands.specs.commands.{usage_line, kind_of, rules_of, values_for, store_text, shown_store, IsLawfulStore, store_spec};
 
 pub mod generate;
@@ -22,10 +22,10 @@ use crate::commands::upgrade::{UpgradeWords, upgrade, upgrade_rows, upgrade_valu
 use clap::ArgMatches;
 use std::alloc::Global;
 use std::thread::Threads;
-use vt_command_base::Refusal;
+use vt_command_inputs::Refusal;
+use vt_command_words::WordsError;
+use vt_command_words::arguments::{Argument, find};
 use vt_outside::{Folder, Sink};
-use vt_words::WordsError;
-use vt_words::arguments::{Argument, find};
 
 /// The line that names all commands, for words that are none of theirs.
 pub fn usage_line() -> &'static [u8]

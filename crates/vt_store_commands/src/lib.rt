@@ -5,3 +5,5 @@ pub mod commands;
 mod plain_files;
 mod plain_groups;
 mod seen_textures;
+
+pub use vt_store::write_store;

@@ -2,22 +2,20 @@
 
 ghost use Rattle.std.specs.Prelude.{◌≡◌, false, ◌⊎◌, ◌*◌, ◌-◌, ◌<◌, ◌≤◌, [], ◌∷◌, length, vec_len};
 ghost use Rattle.std.specs.Thread.{IsSync};
-ghost use Rattle.vt_files.specs.Effects.{folder_effect};
-ghost use Rattle.vt_files.specs.Expectations.{Writes};
-ghost use Rattle.vt_files.specs.Pictures.{expected_pictures};
-ghost use Rattle.vt_words.specs.Names.{four_digit_numbers, picture_name};
+ghost use Rattle.vt_outside.specs.Effects.{folder_effect};
+ghost use Rattle.vt_outside.specs.Expectations.{Writes};
+ghost use Rattle.vt_plain_bilinear.specs.Pictures.{expected_pictures};
+ghost use Rattle.vt_plain_bilinear.specs.Names.{four_digit_numbers, picture_name};
 ghost use Rattle.vt_store_commands.specs.PlainFiles.{HasHeader, HasRoom, HoldsFiles, WritesOn, file_of, file_size};
 
 use crate::plain_files::{PlainPictures, draw_front, file_size};
 use std::alloc::Global;
 use std::mem;
 use std::thread::{Threads, join_mut};
-use vt_draw::DRAWING_TIME;
-use vt_files::write_file;
-use vt_outside::{Folder, OutsideError};
-use vt_parts::{processors, threads_for};
-use vt_plain_bilinear::BLENDING_TIME;
-use vt_words::{Filtering, picture_name};
+use vt_command_words::Filtering;
+use vt_outside::{Folder, OutsideError, write_file};
+use vt_plain_bilinear::picture_name;
+use vt_threads::{BLENDING_TIME, DRAWING_TIME, processors, threads_for};
 
 // How many pixels a thread draws at least before the pictures are written: half a millisecond of work.
 const THREAD_PIXELS: u64 = 100_000;

@@ -12,20 +12,20 @@ ghost use Rattle.vt_mip.specs.HalvedStrips.{strip_height};
 ghost use Rattle.vt_camera.specs.Rows.{row_of, row_level};
 ghost use Rattle.vt_camera.specs.declared.surfaces.Surface.{Surface};
 ghost use Rattle.vt_draw.specs.Plain.{camera_at};
-ghost use Rattle.vt_files.specs.Effects.{folder_effect};
-ghost use Rattle.vt_command_base.specs.Inputs.{TextureInput};
-ghost use Rattle.vt_command_base.specs.Reads.{Refused};
+ghost use Rattle.vt_outside.specs.Effects.{folder_effect};
+ghost use Rattle.vt_command_inputs.specs.Inputs.{TextureInput};
+ghost use Rattle.vt_command_inputs.specs.Reads.{Refused};
 ghost use Rattle.vt_store_commands.specs.SeenTextures.{IsOf, Sees};
 
 use std::alloc::Global;
 use std::thread::Threads;
 use vt_camera::Path;
-use vt_command_base::{Refusal, open_image, read_texture};
+use vt_command_inputs::{Refusal, open_image, read_texture};
+use vt_command_words::Filtering;
 use vt_draw::wants_level_0;
 use vt_mip::halve_texture;
 use vt_outside::{File, Folder, OutsideError};
 use vt_ppm::{Image, StripReader};
-use vt_words::Filtering;
 
 /// What is there of a texture: all of it, or its level 1 alone.
 #[derive(Drop)]

@@ -1,8 +1,8 @@
 -- What the writer of a table keeps, after each of its calls.
 use Rattle.std.proofs.Common.{◌≡◌, ℕ, ◌+◌, ◌-◌, ◌*◌, ◌<◌, ◌≤◌, List, [], ◌∷◌, ◌++◌, length, get_or, set, replicate, refl, sym, ap, ◌∙◌, subst, arith, Some, None, inl, inr, length-set}
 use Rattle.vt_definitions.specs.Limits.{most_frames}
-use Rattle.vt_pages.specs.Shape.{Shape}
-use Rattle.vt_pages.specs.Pages.{pages_of, IsWithinLimits}
+use Rattle.vt_table.specs.Shape.{Shape}
+use Rattle.vt_table.specs.Pages.{pages_of, IsWithinLimits}
 use Rattle.vt_table.specs.JournalTypes.changes.Change.{Change}
 use Rattle.vt_table.specs.Changes.{Table, at, newest, changed, IsFree, IsLegalNext}
 use Rattle.vt_table.specs.JournalKept.{entries_of}

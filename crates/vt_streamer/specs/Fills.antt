@@ -1,7 +1,7 @@
 -- What filling a frame with a tile leaves.
 use Rattle.std.specs.Prelude.{◌≡◌, ◌≢◌, ℕ, ◌*◌, ◌<◌, List, map, slice_index}
 use Rattle.std.specs.List.{range_with_len}
-use Rattle.vt_pages.specs.Shape.{Shape}
+use Rattle.vt_table.specs.Shape.{Shape}
 use Rattle.vt_table.specs.Views.{tile_word}
 use Rattle.vt_grace.specs.declared.views.WriterView.{WriterView}
 use Rattle.vt_grace.specs.Places.{texel_place}

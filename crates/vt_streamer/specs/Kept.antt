@@ -1,7 +1,7 @@
 -- What the writer of a table keeps beside its view.
 use Rattle.std.specs.Prelude.{◌≡◌, ℕ, ◌<◌, List, length, slice_index}
-use Rattle.vt_pages.specs.Shape.{Shape}
-use Rattle.vt_pages.specs.Pages.{pages_of}
+use Rattle.vt_table.specs.Shape.{Shape}
+use Rattle.vt_table.specs.Pages.{pages_of}
 use Rattle.vt_table.specs.Changes.{newest, IsFree}
 use Rattle.vt_table.specs.JournalKept.{entries_of}
 use Rattle.vt_table.specs.Views.{IsTable}

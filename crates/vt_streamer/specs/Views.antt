@@ -1,7 +1,7 @@
 -- What contracts see of a streamer.
 use Rattle.std.specs.Prelude.{◌≡◌, ℕ, List, [], length}
 use Rattle.atomic_table.specs.Seated.{TableId}
-use Rattle.vt_pages.specs.Shape.{Shape}
+use Rattle.vt_table.specs.Shape.{Shape}
 use Rattle.vt_grace.specs.declared.views.WriterView.{WriterView}
 use Rattle.vt_grace.specs.Sizes.{AreWithinLimits, sizes_of}
 use Rattle.vt_grace.specs.Values.{WordsValue}

@@ -2,7 +2,7 @@
 
 ghost use Rattle.std.specs.Prelude.{◌≡◌, ◌≢◌, ℕ, ◌+◌, ◌-◌, ◌*◌, ◌<◌, ◌≤◌, false, length, IfOk, IfErr, OnOk, OnErr, IsOk};
 ghost use Rattle.vt_definitions.specs.Limits.{most_samplers, most_frames, most_frame_texels, most_versions};
-ghost use Rattle.vt_pages.specs.Pages.{pages_of};
+ghost use Rattle.vt_table.specs.Pages.{pages_of};
 ghost use Rattle.vt_table.specs.Changes.{newest, nothing_mapped, IsFree, IsLegalNext};
 ghost use Rattle.vt_table.specs.Views.{filled_for, filled_after, IsReady, IsWithin, IsTile};
 ghost use Rattle.vt_grace.specs.Sizes.{sizes_of};
@@ -23,8 +23,7 @@ use std::alloc::Global;
 use std::marker::Model;
 use vt_grace::{Pass, Words};
 use vt_outside::NoMemory;
-use vt_pages::Geometry;
-use vt_table::{Change, Journal};
+use vt_table::{Change, Geometry, Journal};
 
 /// A page table of shared words with its journal, as its one writer has it. Contracts see of which words it is, what the writer knows, the
 /// room for more changes, and of each frame for which page it was filled since it could be.

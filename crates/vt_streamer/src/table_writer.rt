@@ -2,7 +2,7 @@
 
 ghost use Rattle.std.specs.Prelude.{◌≡◌, ◌≢◌, ℕ, ◌-◌, ◌<◌, ◌≤◌, ◌*◌, false, length, IfOk, IfErr, OnOk, OnErr, IsOk, slice_index};
 ghost use Rattle.vt_definitions.specs.Limits.{most_samplers, most_frames, most_frame_texels, most_versions};
-ghost use Rattle.vt_pages.specs.Pages.{pages_of};
+ghost use Rattle.vt_table.specs.Pages.{pages_of};
 ghost use Rattle.vt_table.specs.Changes.{newest, nothing_mapped, IsFree, IsLegalNext};
 ghost use Rattle.vt_table.specs.Views.{filled_for, filled_after, IsReady, IsWithin, IsTile};
 ghost use Rattle.vt_grace.specs.Sizes.{sizes_of};
@@ -26,8 +26,7 @@ use std::alloc::Global;
 use std::marker::Model;
 use vt_grace::{Pass, Words, WriterSeat};
 use vt_outside::NoMemory;
-use vt_pages::Geometry;
-use vt_table::{Change, depth_in, free_owner, put_entry};
+use vt_table::{Change, Geometry, depth_in, free_owner, put_entry};
 
 /// A page table of shared words, as its one writer has it (Mayer 2010). After it was made it takes no memory, however many versions it
 /// gets: of its changes it has the last three, and the journal is in what contracts see alone. They see of which words it is, what the

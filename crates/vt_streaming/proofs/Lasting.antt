@@ -18,9 +18,10 @@ use Rattle.vt_streamer.specs.Views.{StreamerView}
 use Rattle.vt_requests.specs.Outcomes.{IsEntryFor, IsBatchFor, group_if}
 use Rattle.vt_requests.proofs.Streaming.{entry_stays}
 use Rattle.vt_requests.specs.BatchRounds.{result_group, result_events, AreLossesOf}
-use Rattle.vt_streaming.specs.declared.report.StreamReport.{StreamReport}
+use Rattle.vt_requests.specs.declared.report.StreamReport.{StreamReport}
 use Rattle.vt_streaming.specs.Made.{HasMade, HasStreamed, result_contents, results_contents}
-use Rattle.vt_streaming.specs.Reports.{IsBlank, HasNoted, IsUnderWay}
+use Rattle.vt_streaming.specs.Reports.{HasNoted, IsUnderWay}
+use Rattle.vt_requests.specs.BlankReports.{IsBlank}
 use Rattle.vt_streaming.proofs.Making.{made_none, made_both}
 use Rattle.vt_streaming.proofs.Taking.{flag_was, flag_set}
 

@@ -6,14 +6,14 @@ use Rattle.std.proofs.lemmas.Bool.{false≢true}
 use Rattle.std.proofs.lemmas.List.Quantifiers.{all_pairs_push}
 use Rattle.std.proofs.lemmas.List.{map-append, append-nil}
 use Rattle.std.proofs.lemmas.List.Elements.{All-nil, All-push}
-use Rattle.vt_pages.specs.Shape.{Shape}
+use Rattle.vt_journal.specs.Shape.{Shape}
 use Rattle.vt_streamer.specs.TableViews.{IsTile}
 use Rattle.vt_queue.specs.declared.items.Loaded.{Loaded}
 use Rattle.vt_queue.specs.declared.views.PassView.{PassView}
 use Rattle.vt_queue.specs.PassViews.{pass_view}
 use Rattle.vt_queue.specs.Steps.{Takes}
 use Rattle.vt_requests.specs.Streamed.{with_taken}
-use Rattle.vt_streaming.specs.Streams.{Streams, is_wanted}
+use Rattle.vt_requests.specs.TakenResults.{Streams, is_wanted}
 
 -- a flag that is set
 flag_kept : (l : List Bool) (i j : ℕ) → get_or l j false ≡ true → get_or (set l i true) j false ≡ true

@@ -1,8 +1,22 @@
 pub use Rattle.vt_requests.specs.BatchRounds
+pub use Rattle.vt_requests.specs.BlankReports
 pub use Rattle.vt_requests.specs.Outcomes
+pub use Rattle.vt_requests.specs.Paths
 pub use Rattle.vt_requests.specs.Readings
+pub use Rattle.vt_requests.specs.Replays
+pub use Rattle.vt_requests.specs.Rows
+pub use Rattle.vt_requests.specs.Scenes
 pub use Rattle.vt_requests.specs.Streamed
+pub use Rattle.vt_requests.specs.TakenResults
+pub use Rattle.vt_requests.specs.declared as RequestsTypes
+pub use Rattle.vt_streamer.specs.Banks
+pub use Rattle.vt_streamer.specs.Contents
+pub use Rattle.vt_streamer.specs.Fills
+pub use Rattle.vt_streamer.specs.Giving
+pub use Rattle.vt_streamer.specs.Looks
+pub use Rattle.vt_streamer.specs.Notes
+pub use Rattle.vt_streamer.specs.Sound
 pub use Rattle.vt_streamer.specs.Views
+pub use Rattle.vt_streamer.specs.WriterViews
 pub mod Made
-pub mod Streams
 pub mod Reports

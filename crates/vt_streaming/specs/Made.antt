@@ -1,6 +1,6 @@
 -- Which changes a writer made, and with which contents.
 use Rattle.std.specs.Prelude.{◌≡◌, ℕ, Bool, true, false, Option, Some, None, List, [], ◌∷◌, ◌++◌, slice_get, flat_map}
-use Rattle.vt_pages.specs.Shape.{Shape}
+use Rattle.vt_journal.specs.Shape.{Shape}
 use Rattle.vt_journal.specs.declared.changes.Event.{Event}
 use Rattle.vt_journal.specs.JournalText.{changes_of}
 use Rattle.vt_requests.specs.PlanTypes.batches.Planned.{Planned}

@@ -1,5 +1,5 @@
 -- What is reported of a batch while it is streamed.
-use Rattle.std.specs.Prelude.{◌≡◌, ℕ, ◌+◌, ◌*◌, ◌≤◌, true, false, Some, List, [], ◌∷◌, ◌++◌, length, slice_get, slice_index_or, slice_set, All}
+use Rattle.std.specs.Prelude.{◌≡◌, ℕ, ◌+◌, ◌≤◌, true, false, Some, List, [], ◌∷◌, ◌++◌, length, slice_get, slice_index_or, slice_set, All}
 use Rattle.vt_journal.specs.declared.changes.Event.{Event}
 use Rattle.vt_journal.specs.Changes.{newest}
 use Rattle.vt_streamer.specs.TableViews.{IsTile}
@@ -9,18 +9,8 @@ use Rattle.vt_requests.specs.Readings.{is_lost}
 use Rattle.vt_streamer.specs.Views.{StreamerView}
 use Rattle.vt_requests.specs.Outcomes.{IsEntryFor}
 use Rattle.vt_requests.specs.BatchRounds.{result_group, result_events, AreLossesOf}
-use Rattle.vt_streaming.specs.declared.report.StreamReport.{StreamReport}
+use Rattle.vt_requests.specs.declared.report.StreamReport.{StreamReport}
 use Rattle.vt_streaming.specs.Made.{HasStreamed}
-
--- nothing is told yet of so many entries, and there is room for what streaming them tells
-pub record IsBlank (count : ℕ) (r : StreamReport) : Type 0 where
-  pub losses : length r.losses.elements ≡ count
-  pub none_lost : All (λ lost. lost ≡ false) r.losses.elements
-  pub flags : length r.taken.elements ≡ count
-  pub none_taken : All (λ flag. flag ≡ false) r.taken.elements
-  pub no_results : r.results.elements ≡ []
-  pub results_room : count ≤ r.results.spare
-  pub events_room : 2 * count ≤ r.events.spare
 
 -- a result was noted: the events of its group, whether it is lost, that it was taken, and the result itself
 pub record HasNoted (batch : List Planned) (result : Loaded) (r t : StreamReport) : Type 0 where

@@ -1,7 +1,7 @@
 //! Entries of a batch that are streamed into the words.
 
 ghost use Rattle.std.specs.Prelude.{◌≡◌, ◌+◌, ◌<◌, ◌≤◌, false, None, [], ◌∷◌, ◌++◌, length};
-ghost use Rattle.vt_pages.specs.Pages.{pages_of};
+ghost use Rattle.vt_journal.specs.Pages.{pages_of};
 ghost use Rattle.vt_journal.specs.declared.changes.Change.TheVariants.{Map};
 ghost use Rattle.vt_journal.specs.declared.changes.Event.TheVariants.{Changed};
 ghost use Rattle.vt_journal.specs.Changes.{newest, IsFree};

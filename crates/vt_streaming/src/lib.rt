@@ -4,13 +4,11 @@
 
 mod entries;
 mod pause;
-mod report;
 mod results;
 mod stream;
 mod waits;
 
-pub use report::StreamReport;
 pub use stream::stream_batch;
-pub use vt_requests::sampler_of;
+pub use vt_requests::{Counts, StreamReport, Task, sampler_of};
 pub use vt_streamer::Streamer;
 pub use waits::take_result;

@@ -9,17 +9,15 @@ ghost use Rattle.vt_requests.specs.Readings.{is_lost};
 ghost use Rattle.vt_requests.specs.Outcomes.{IsEntryFor, group_of};
 ghost use Rattle.vt_requests.specs.BatchRounds.{result_group};
 ghost use Rattle.vt_streaming.specs.Made.{HasMade, group_contents, result_contents};
-ghost use Rattle.vt_streaming.specs.Streams.{is_new, is_tile_length, is_wanted};
+ghost use Rattle.vt_requests.specs.TakenResults.{is_new, is_tile_length, is_wanted};
 ghost use Rattle.vt_streaming.specs.Reports.{HasNoted};
 
 use crate::entries::put_entry;
-use crate::report::StreamReport;
 use std::sync::Wait;
-use vt_journal::{Event, Events};
+use vt_journal::{Event, Events, Geometry};
 use vt_outside::Gate;
-use vt_pages::Geometry;
 use vt_queue::{Loaded, Outcome};
-use vt_requests::{Losses, Planned};
+use vt_requests::{Losses, Planned, StreamReport};
 use vt_streamer::{Streamer, Words};
 
 // Whether a result is for an entry, by its ticket, whose result was not taken.

@@ -8,17 +8,16 @@ ghost use Rattle.vt_streamer.specs.Views.{IsStreamerOf};
 ghost use Rattle.vt_requests.specs.Outcomes.{IsBatchFor};
 ghost use Rattle.vt_requests.specs.BatchRounds.{result_events, AreLossesOf};
 ghost use Rattle.vt_streaming.specs.Made.{HasStreamed};
-ghost use Rattle.vt_streaming.specs.Streams.{Streams};
-ghost use Rattle.vt_streaming.specs.Reports.{IsBlank};
+ghost use Rattle.vt_requests.specs.TakenResults.{Streams};
+ghost use Rattle.vt_requests.specs.BlankReports.{IsBlank};
 
-use crate::report::StreamReport;
 use crate::results::{is_wanted, stream_result};
 use crate::waits::take_result;
 use std::sync::Wait;
 use std::thread::Threads;
 use vt_outside::Gate;
 use vt_queue::{Loaded, QueuePass, ResultQueue};
-use vt_requests::Planned;
+use vt_requests::{Planned, StreamReport};
 use vt_streamer::{Streamer, Words};
 
 /// Takes results until there was one for each entry of a batch, and applies each to the entry of its ticket as it comes:

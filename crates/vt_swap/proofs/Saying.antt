@@ -2,7 +2,7 @@
 use Rattle.std.proofs.Common.{◌≡◌, ℕ, suc, ◌+◌, ◌≤◌, false, List, length, sym, ap, ◌∙◌, subst, arith}
 use Rattle.std.specs.Prelude.{Option, Some, None, IfSome}
 use mathlib.Core.List.{IsPrefix}
-use Rattle.vt_draw.specs.Lookups.{Note, EntryNote, WordNote}
+use Rattle.vt_pictures.specs.DrawLookups.{Note, EntryNote, WordNote}
 use Rattle.vt_journal.specs.declared.changes.Change.{Change}
 use Rattle.vt_journal.specs.Changes.{Table, at}
 use Rattle.vt_journal.specs.Kept.{entry_of}
@@ -13,8 +13,8 @@ use Rattle.vt_swap_steps.specs.Logs.{changes_in}
 use Rattle.vt_swap_steps.specs.Told.{HasWord, IsEntry}
 use Rattle.vt_swap.specs.Notes.{IsWord, IsSaidBy}
 use Rattle.vt_pages.specs.Pages.{ancestor_of}
-use Rattle.vt_draw.specs.declared.lookups.Found.{Found}
-use Rattle.vt_draw.specs.Lookups.{IsFinest}
+use Rattle.vt_pictures.specs.DrawTypes.lookups.Found.{Found}
+use Rattle.vt_pictures.specs.DrawLookups.{IsFinest}
 use Rattle.vt_swap.specs.Readers.{LookupView, IsLookup, IsSaidIn}
 use Rattle.vt_swap_steps.proofs.Prefixes.{prefix_get, prefix_length}
 use Rattle.vt_swap_steps.proofs.Lawful.{changes_prefix}

@@ -1,7 +1,7 @@
 -- What a log says of versions of the page table, and of the words of frames.
 use Rattle.std.specs.Prelude.{◌≡◌, ℕ, ◌<◌, ◌≤◌, Some, List, length, slice_index}
 use Rattle.vt_definitions.specs.Depths.{word_at}
-use Rattle.vt_draw.specs.Lookups.{Note, EntryNote, WordNote}
+use Rattle.vt_pictures.specs.DrawLookups.{Note, EntryNote, WordNote}
 use Rattle.vt_journal.specs.Changes.{at}
 use Rattle.vt_swap_steps.specs.LogTypes.records.LogRecord.{LogRecord}
 use Rattle.vt_swap_steps.specs.Logs.{changes_in}

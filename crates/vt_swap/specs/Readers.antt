@@ -2,7 +2,7 @@
 use Rattle.std.specs.Prelude.{◌≡◌, ℕ, ◌≤◌, Bool, false, List, [], ◌∷◌, ◌++◌, length, All}
 use mathlib.Core.List.{IsPrefix}
 use Rattle.vt_pages.specs.Shape.{Shape}
-use Rattle.vt_draw.specs.Lookups.{Note}
+use Rattle.vt_pictures.specs.DrawLookups.{Note}
 use Rattle.vt_swap_steps.specs.LogTypes.records.LogRecord.{LogRecord}
 use Rattle.vt_swap_steps.specs.declared.table.NewestTable.{NewestTable}
 use Rattle.vt_swap_steps.specs.LogTypes.frame.FrameKey.{FrameKey}

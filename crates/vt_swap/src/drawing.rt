@@ -4,7 +4,7 @@ ghost use Rattle.std.specs.Prelude.{◌≡◌, ℕ, ◌+◌, ◌*◌, ◌<◌, �
 ghost use mathlib.Core.List.{IsPrefix};
 ghost use Rattle.vt_definitions.specs.Depths.{IsDepth, texel_length};
 ghost use Rattle.vt_pages.specs.Pages.{pages_of};
-ghost use Rattle.vt_draw.specs.Shots.{shot_row};
+ghost use Rattle.vt_pictures.specs.Shots.{shot_row};
 ghost use Rattle.vt_pictures.specs.Evidence.{AreShown, AreRaised};
 ghost use Rattle.vt_swap_steps.specs.Caches.{AreOfOneLog, cache_of};
 ghost use Rattle.vt_swap_steps.specs.Tables.{IsTable};
@@ -12,8 +12,7 @@ ghost use Rattle.vt_swap_steps.specs.Slots.{AreSlotsOf};
 ghost use Rattle.vt_swap.specs.Notes.{IsSaidBy};
 
 use crate::lookup::SwapLookup;
-use vt_draw::Shot;
-use vt_pictures::Filter;
+use vt_pictures::{Filter, Shot};
 use vt_swap_steps::{Front, NewestTable, Slot, again, learn};
 
 /// Draws row `y` of a picture in a version that was entered, and tells whether a check of a frame failed. If one did, what it drew means

@@ -3,7 +3,7 @@
 ghost use Rattle.std.specs.Prelude.{◌≡◌, ◌+◌, ◌<◌, ◌≤◌, false, IfSome, length};
 ghost use mathlib.Core.List.{IsPrefix};
 ghost use Rattle.vt_pages.specs.Pages.{pages_of, level_of, levels_of, ancestor_of};
-ghost use Rattle.vt_draw.specs.Lookups.{IsFinest};
+ghost use Rattle.vt_pictures.specs.DrawLookups.{IsFinest};
 ghost use Rattle.vt_swap_steps.specs.Tables.{IsTable};
 ghost use Rattle.vt_swap_steps.specs.Slots.{AreSlotsOf, IsSlotOf};
 ghost use Rattle.vt_swap_steps.specs.Caches.{Cache, cache_of};
@@ -14,8 +14,8 @@ ghost use Rattle.vt_swap.specs.Readers.{LookupView, IsSaidIn, lookup_base};
 use counted_slot::Claim;
 use std::marker::Model;
 use std::mem;
-use vt_draw::{Found, Lookup, place_of};
 use vt_pages::Geometry;
+use vt_pictures::{Found, Lookup, place_of};
 use vt_swap_steps::{
     Frame, Front, NewestTable, Slot, entry_of, give_back, right_to_read, word_in_hand,
 };

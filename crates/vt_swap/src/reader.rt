@@ -4,7 +4,7 @@ ghost use Rattle.std.specs.Prelude.{◌≡◌, ℕ, ◌+◌, ◌*◌, ◌<◌, �
 ghost use mathlib.Core.List.{IsPrefix};
 ghost use Rattle.vt_definitions.specs.Depths.{IsDepth, texel_length};
 ghost use Rattle.vt_pages.specs.Pages.{pages_of};
-ghost use Rattle.vt_draw.specs.Shots.{shot_row};
+ghost use Rattle.vt_pictures.specs.Shots.{shot_row};
 ghost use Rattle.vt_pictures.specs.Evidence.{AreShown, AreRaised};
 ghost use Rattle.vt_swap_steps.specs.Logs.{changes_in, IsLawful};
 ghost use Rattle.vt_swap_steps.specs.Slots.{AreSlotsOf};
@@ -17,9 +17,8 @@ use crate::streamer::SwapStreamer;
 use std::marker::Model;
 use std::sync::Wait;
 use std::thread;
-use vt_draw::Shot;
 use vt_outside::{Gate, Point};
-use vt_pictures::Filter;
+use vt_pictures::{Filter, Shot};
 use vt_swap_steps::{Front, LeftRightReader, Slot, enter, entry_of, is_behind, is_lawful};
 
 /// A reader of the newest page table and of the frames, as a sampler has it. Contracts see which cache it is, what the reader has

@@ -9,15 +9,15 @@ use Rattle.std.proofs.lemmas.Nat.{mod_below}
 use Rattle.std.proofs.lemmas.Option.{none-some, slice_get-get_or}
 use Rattle.vt_swap.specs.Caches.{Cache}
 use Rattle.vt_outside.specs.Lists.{ListView}
-use Rattle.vt_pages.specs.Shape.{Shape}
-use Rattle.vt_pages.specs.Pages.{pages_of}
-use Rattle.vt_journal.specs.declared.changes.RowLine.{RowLine}
-use Rattle.vt_word_workers.specs.Samplers.{SamplerView, IsOwn, version_at}
+use Rattle.vt_tiles.specs.Shape.{Shape}
+use Rattle.vt_tiles.specs.Pages.{pages_of}
+use Rattle.vt_pictures.specs.JournalTypes.changes.RowLine.{RowLine}
+use Rattle.vt_pass.specs.Samplers.{SamplerView, IsOwn, version_at}
 use Rattle.vt_swap.specs.Readers.{ReaderView}
 use Rattle.vt_swap.specs.Making.{IsNewReader}
 use Rattle.vt_swap_workers.specs.declared.workers.SwapDrawer.{SwapDrawer}
-use Rattle.vt_word_workers.specs.DealtRows.{IsSamplerOf}
-use Rattle.vt_word_workers.proofs.Kits.{each_more}
+use Rattle.vt_pass.specs.DealtRows.{IsSamplerOf}
+use Rattle.vt_pass.proofs.Kits.{each_more}
 use Rattle.vt_swap_machine.specs.declared.draw_kit.DrawKit.{DrawKit}
 use Rattle.vt_swap_machine.specs.DrawKits.{AreDrawers, HasReader, IsIdleDraw, IsReadyDraw, version_by, line_of, lines_of, counted_together}
 

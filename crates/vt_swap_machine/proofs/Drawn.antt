@@ -6,16 +6,16 @@ use Rattle.std.proofs.lemmas.Nat.{mod_below}
 use Rattle.std.proofs.lemmas.Option.{same_Some, slice_get_within, slice_get-get_or, get_or_from_slice_get, slice_get_cases}
 use mathlib.Core.List.{IsPrefix}
 use Rattle.vt_swap.specs.Caches.{Cache}
-use Rattle.vt_pages.specs.Shape.{Shape}
-use Rattle.vt_pages.specs.Pages.{pages_of}
+use Rattle.vt_tiles.specs.Shape.{Shape}
+use Rattle.vt_tiles.specs.Pages.{pages_of}
 use Rattle.vt_camera.specs.Paths.{ArePictureSides}
-use Rattle.vt_draw.specs.Shots.{shot_row, wants_in_rows}
+use Rattle.vt_pictures.specs.Shots.{shot_row, wants_in_rows}
 use Rattle.vt_pictures.specs.declared.filters.Filter.{Ghosts as FilterMeanings}
 use Rattle.vt_pictures.specs.Evidence.{AreShown}
 use Rattle.vt_pictures.specs.FilterLaws.{WantsFew, picture_wants}
 use Rattle.vt_pictures.proofs.Handed.{shown_by_more}
-use Rattle.vt_word_workers.specs.Samplers.{IsOwn, own_rows, row_at, row_length, version_at}
-use Rattle.vt_word_workers.proofs.Sharing.{picture_few}
+use Rattle.vt_pass.specs.Samplers.{IsOwn, own_rows, row_at, row_length, version_at}
+use Rattle.vt_pass.proofs.Sharing.{picture_few}
 use Rattle.vt_pictures.specs.Scenes.{Scene}
 use Rattle.vt_swap.specs.Logs.{changes_in}
 use Rattle.vt_swap.specs.Notes.{IsSaidBy}
@@ -26,7 +26,7 @@ use Rattle.vt_swap.proofs.Entering.{known_on}
 use Rattle.vt_swap_workers.specs.declared.workers.SwapDrawer.{SwapDrawer}
 use Rattle.vt_swap_workers.specs.SwapTasks.{HasDrawn}
 use Rattle.vt_swap_workers.proofs.FromStart.{entered_from, entered_since}
-use Rattle.vt_word_workers.specs.DealtRows.{IsSamplerOf}
+use Rattle.vt_pass.specs.DealtRows.{IsSamplerOf}
 use Rattle.vt_swap_machine.specs.declared.draw_kit.DrawKit.{DrawKit}
 use Rattle.vt_swap_machine.specs.DrawKits.{AreDrawers, HasReader, IsToldBy, row_by, version_by, counted_together}
 use Rattle.vt_swap_machine.specs.SwapPasses.{WasDrawn, MayEndDraw, reader_by, IsEnteredRow}

@@ -1,6 +1,6 @@
 -- What is told of the rows once the samplers are moved back.
 use Rattle.std.proofs.Common.{◌≡◌, List, subst}
-use Rattle.vt_journal.specs.declared.changes.RowLine.{RowLine}
+use Rattle.vt_pictures.specs.JournalTypes.changes.RowLine.{RowLine}
 use Rattle.vt_swap_workers.specs.declared.workers.SwapDrawer.{SwapDrawer}
 use Rattle.vt_swap_workers.specs.declared.workers.SwapFeeder.{SwapFeeder}
 use Rattle.vt_swap_machine.specs.declared.draw_kit.DrawKit.{DrawKit}

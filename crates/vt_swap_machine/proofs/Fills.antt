@@ -4,23 +4,23 @@ use Rattle.std.specs.Prelude.{All, IfSome}
 use Rattle.std.proofs.lemmas.Bool.{false≢true}
 use Rattle.std.proofs.lemmas.List.Elements.{All-contains}
 use Rattle.std.proofs.lemmas.Option.{none-some, same_Some}
-use Rattle.vt_outside.specs.Files.{IsPiece}
-use Rattle.vt_pages.specs.Shape.{Shape}
-use Rattle.vt_journal.specs.declared.changes.Change.TheVariants.{Map}
+use Rattle.vt_tiles.specs.Files.{IsPiece}
+use Rattle.vt_tiles.specs.Shape.{Shape}
+use Rattle.vt_pictures.specs.JournalTypes.changes.Change.TheVariants.{Map}
 use Rattle.vt_tiles.specs.Format.{tile_length, tile_start}
 use Rattle.vt_evict.specs.PlanTypes.batches.Planned.{Planned}
-use Rattle.vt_loaders.specs.QueueTypes.items.Loaded.{Loaded}
-use Rattle.vt_loaders.specs.QueueTypes.items.Outcome.{Outcome}
-use Rattle.vt_loaders.specs.QueueTypes.items.Outcome.TheVariants.{Read, Lost}
-use Rattle.vt_loaders.specs.Readings.{is_lost}
-use Rattle.vt_loaders.specs.Results.{IsGood}
-use Rattle.vt_requests.specs.BatchRounds.{IsResultOf}
+use Rattle.vt_load.specs.QueueTypes.items.Loaded.{Loaded}
+use Rattle.vt_load.specs.QueueTypes.items.Outcome.{Outcome}
+use Rattle.vt_load.specs.QueueTypes.items.Outcome.TheVariants.{Read, Lost}
+use Rattle.vt_load.specs.Readings.{is_lost}
+use Rattle.vt_load.specs.Results.{IsGood}
+use Rattle.vt_swap_workers.specs.BatchRounds.{IsResultOf}
 use Rattle.vt_swap.specs.LogTypes.records.LogRecord.{LogRecord}
 use Rattle.vt_swap.specs.LogTypes.records.LogRecord.TheVariants.{Changed, Filled}
 use Rattle.vt_swap.specs.Notes.{AreWordsOf}
 use Rattle.vt_swap.specs.Streamers.{StreamerView, HasMapped}
-use Rattle.vt_swap_noted.specs.Filled.{AreStoredFills}
-use Rattle.vt_swap_noted.proofs.Adding.{fills_grow}
+use Rattle.vt_swap_machine.specs.Filled.{AreStoredFills}
+use Rattle.vt_swap_machine.proofs.Adding.{fills_grow}
 use Rattle.vt_swap_workers.specs.Brought.{AreFillsOf}
 
 was_read : (o : Outcome) → is_lost o ≡ false → o ≡ Read

@@ -5,38 +5,38 @@ use Rattle.std.proofs.lemmas.List.FromFn.{length-map-range_with_len, get_or-map-
 use Rattle.vt_outside.specs.Lists.{ListView}
 use Rattle.vt_outside.specs.declared.outside.File.{Ghosts as FileMeanings}
 use Rattle.vt_outside.specs.declared.answers.NoMemory.{NoMemory}
-use Rattle.vt_pages.specs.Shape.{Shape}
-use Rattle.vt_pages.specs.Pages.{pages_of, IsWithinLimits}
-use Rattle.vt_journal.specs.declared.changes.Change.{Change}
-use Rattle.vt_journal.specs.declared.changes.Event.{Event}
-use Rattle.vt_journal.specs.declared.changes.RowLine.{RowLine}
+use Rattle.vt_tiles.specs.Shape.{Shape}
+use Rattle.vt_tiles.specs.Pages.{pages_of, IsWithinLimits}
+use Rattle.vt_pictures.specs.JournalTypes.changes.Change.{Change}
+use Rattle.vt_pictures.specs.JournalTypes.changes.Event.{Event}
+use Rattle.vt_pictures.specs.JournalTypes.changes.RowLine.{RowLine}
 use Rattle.vt_journal.specs.JournalText.{changes_of}
 use Rattle.vt_pictures.specs.declared.filters.Filter.{Ghosts as FilterMeanings}
 use Rattle.vt_pictures.specs.FilterLaws.{IsUnder}
 use Rattle.vt_tiles.specs.Format.{stored}
 use Rattle.vt_tiles.specs.StoreViews.{IsStoreIfTold}
 use Rattle.vt_pictures.specs.Replays.{IsFull, AreReplayed}
-use Rattle.vt_loaders.specs.declared.queued.Queues.{Queues}
-use Rattle.vt_loaders.specs.QueuedLoaders.{QueuedView}
-use Rattle.vt_machine.specs.Jobs.{Job}
-use Rattle.vt_machine.specs.declared.crew.PassReport.{PassReport}
-use Rattle.vt_machine.specs.Drawings.{drawing_of}
-use Rattle.vt_machine.specs.Machines.{MachineState, files_of, told_by}
-use Rattle.vt_machine.specs.Outcomes.{IsOutcome}
-use Rattle.vt_machine.specs.RowOrders.{AreRowsInOrder}
-use Rattle.vt_machine.specs.Requests.{AreReadFor}
-use Rattle.vt_machine.specs.Passes.{IsPictured, Ran, Broke, Ends}
-use Rattle.vt_requests.specs.BatchRounds.{result_events}
+use Rattle.vt_load.specs.declared.queued.Queues.{Queues}
+use Rattle.vt_load.specs.QueuedLoaders.{QueuedView}
+use Rattle.vt_loading.specs.Jobs.{Job}
+use Rattle.vt_loading.specs.MachineTypes.crew.PassReport.{PassReport}
+use Rattle.vt_loading.specs.Drawings.{drawing_of}
+use Rattle.vt_loading.specs.Machines.{MachineState, files_of, told_by}
+use Rattle.vt_loading.specs.Outcomes.{IsOutcome}
+use Rattle.vt_loading.specs.RowOrders.{AreRowsInOrder}
+use Rattle.vt_loading.specs.Requests.{AreReadFor}
+use Rattle.vt_loading.specs.Passes.{IsPictured, Ran, Broke, Ends}
+use Rattle.vt_swap_workers.specs.BatchRounds.{result_events}
 use Rattle.vt_swap.specs.LogTypes.frame.FrameKey.{FrameKey}
 use Rattle.vt_swap.specs.Slots.{AreSlotsOf}
 use Rattle.vt_swap.specs.Streamers.{StreamerView}
-use Rattle.vt_swap_noted.specs.Filled.{AreStoredFills}
-use Rattle.vt_swap_noted.proofs.Adding.{fills_grow}
-use Rattle.vt_swap_noted.proofs.Replaying.{picture_replayed}
+use Rattle.vt_swap_machine.specs.Filled.{AreStoredFills}
+use Rattle.vt_swap_machine.proofs.Adding.{fills_grow}
+use Rattle.vt_swap_machine.proofs.Replaying.{picture_replayed}
 use Rattle.vt_swap_workers.specs.Brought.{AreFillsOf, HasStreamed}
 use Rattle.vt_swap_workers.specs.declared.workers.SwapDrawer.{SwapDrawer}
 use Rattle.vt_swap_workers.specs.declared.workers.SwapFeeder.{SwapFeeder}
-use Rattle.vt_stream_kit.specs.StreamKits.{StreamKitView, stream_before, HasEndedStream}
+use Rattle.vt_loading.specs.StreamKits.{StreamKitView, stream_before, HasEndedStream}
 use Rattle.vt_swap_machine.specs.declared.draw_kit.DrawKit.{DrawKit}
 use Rattle.vt_swap_machine.specs.DrawKits.{HasReader, drawn_row, drawn_rows, lines_of}
 use Rattle.vt_swap_machine.specs.SwapPasses.{WasDrawn, MayEndDraw, HasTold, IsEnteredRow, entered_by}

@@ -3,35 +3,35 @@ use Rattle.std.proofs.Common.{◌≡◌, ℕ, ◌*◌, ◌≤◌, false, List, l
 use Rattle.std.specs.Prelude.{All, Result, Ok, Err, OnOk, OnErr}
 use Rattle.std.proofs.lemmas.Option.{none-some, slice_get-get_or}
 use Rattle.vt_swap.specs.Caches.{Cache}
-use Rattle.vt_definitions.specs.Depths.{IsDepth}
+use Rattle.vt_tiles.specs.Depths.{IsDepth}
 use Rattle.vt_definitions.specs.Limits.{most_frames}
 use Rattle.vt_outside.specs.Lists.{ListView}
 use Rattle.vt_outside.specs.declared.outside.File.{Ghosts as FileMeanings}
 use Rattle.vt_outside.specs.declared.answers.NoMemory.{NoMemory}
-use Rattle.vt_pages.specs.Shape.{Shape}
-use Rattle.vt_pages.specs.Pages.{pages_of, IsWithinLimits}
-use Rattle.vt_journal.specs.Changes.{newest}
+use Rattle.vt_tiles.specs.Shape.{Shape}
+use Rattle.vt_tiles.specs.Pages.{pages_of, IsWithinLimits}
+use Rattle.vt_pictures.specs.Changes.{newest}
 use Rattle.vt_evict.specs.PlanTypes.batches.Planned.{Planned}
-use Rattle.vt_loaders.specs.Queues.{IsOf}
-use Rattle.vt_loaders.specs.declared.queued.Queues.{Queues}
-use Rattle.vt_machine.specs.Jobs.{Job}
-use Rattle.vt_machine.specs.All.{AllReady}
-use Rattle.vt_machine.specs.declared.crew.Crew.{Crew}
-use Rattle.vt_machine.specs.Crews.{last_start}
-use Rattle.vt_machine.specs.Machines.{told_by}
-use Rattle.vt_machine.specs.Outcomes.{IsBatchFor}
-use Rattle.vt_machine.specs.Passes.{MayPlace, IsJobFor, IsUntouched, IsSpent}
-use Rattle.vt_word_workers.proofs.Rooms.{told_same, files_same}
+use Rattle.vt_load.specs.Queues.{IsOf}
+use Rattle.vt_load.specs.declared.queued.Queues.{Queues}
+use Rattle.vt_loading.specs.Jobs.{Job}
+use Rattle.vt_loading.specs.All.{AllReady}
+use Rattle.vt_loading.specs.MachineTypes.crew.Crew.{Crew}
+use Rattle.vt_loading.specs.Crews.{last_start}
+use Rattle.vt_loading.specs.Machines.{told_by}
+use Rattle.vt_loading.specs.Outcomes.{IsBatchFor}
+use Rattle.vt_loading.specs.Passes.{MayPlace, IsJobFor, IsUntouched, IsSpent}
+use Rattle.vt_loading.proofs.StoreRooms.{told_same, files_same}
 use Rattle.vt_swap.specs.LogTypes.frame.FrameKey.{FrameKey}
 use Rattle.vt_swap.specs.LogTypes.records.LogRecord.TheVariants.{Filled}
 use Rattle.vt_swap.specs.Slots.{AreSlotsOf}
 use Rattle.vt_swap.specs.Streamers.{StreamerView, HasMapped, IsRefused}
 use Rattle.vt_swap.specs.Making.{IsNewStreamer}
-use Rattle.vt_swap_noted.specs.Filled.{AreStoredFills}
+use Rattle.vt_swap_machine.specs.Filled.{AreStoredFills}
 use Rattle.vt_swap_workers.specs.declared.workers.SwapDrawer.{SwapDrawer}
 use Rattle.vt_swap_workers.specs.declared.workers.SwapFeeder.{SwapFeeder}
 use Rattle.vt_swap_workers.specs.SwapTasks.{MayDraw, MayStream}
-use Rattle.vt_stream_kit.specs.StreamKits.{StreamKitView, IsStreamKit, IsSameStream, IsAskedStream}
+use Rattle.vt_loading.specs.StreamKits.{StreamKitView, IsStreamKit, IsSameStream, IsAskedStream}
 use Rattle.vt_swap_machine.specs.declared.draw_kit.DrawKit.{DrawKit}
 use Rattle.vt_swap_machine.specs.DrawKits.{HasReader, IsDrawKit, IsReadyDraw}
 use Rattle.vt_swap_machine.specs.SwapMachines.{SwapView, swap_state, state_by, journal_by, IsFitFeeder, IsIdleSwap, IsReadySwap, IsIdleBy, IsReadyBy}

@@ -6,3 +6,5 @@ pub mod PartlyRead
 pub mod Ending
 pub mod Finishing
 pub mod Idle
+pub mod Replaying
+pub mod Adding

@@ -7,14 +7,14 @@ use Rattle.std.proofs.lemmas.List.Sums.{sum_by-cons}
 use Rattle.std.proofs.lemmas.Nat.{mod_below}
 use Rattle.std.proofs.lemmas.Option.{none-some, same_Some, slice_get_within}
 use Rattle.vt_definitions.specs.Limits.{most_samplers}
-use Rattle.vt_pages.specs.Shape.{Shape}
+use Rattle.vt_tiles.specs.Shape.{Shape}
 use Rattle.vt_camera.specs.Paths.{PathView}
-use Rattle.vt_camera.specs.Rows.{RowView}
-use Rattle.vt_draw.specs.Shots.{wants_in_rows}
-use Rattle.vt_journal.specs.declared.changes.RowLine.{RowLine}
-use Rattle.vt_word_workers.specs.Samplers.{own_rows}
-use Rattle.vt_word_workers.proofs.Sharing.{rows_shared}
-use Rattle.vt_machine.specs.RowOrders.{AreRowsInOrder}
+use Rattle.vt_pictures.specs.Rows.{RowView}
+use Rattle.vt_pictures.specs.Shots.{wants_in_rows}
+use Rattle.vt_pictures.specs.JournalTypes.changes.RowLine.{RowLine}
+use Rattle.vt_pass.specs.Samplers.{own_rows}
+use Rattle.vt_pass.proofs.Sharing.{rows_shared}
+use Rattle.vt_loading.specs.RowOrders.{AreRowsInOrder}
 use Rattle.vt_swap_workers.specs.declared.workers.SwapDrawer.{SwapDrawer}
 use Rattle.vt_swap_machine.specs.DrawKits.{version_by, line_of, lines_of, counted_together}
 

@@ -3,17 +3,17 @@ use Rattle.std.specs.Prelude.{◌≡◌, ℕ, ◌%◌, ◌≤◌, Option, None, 
 use Rattle.std.specs.List.{range_with_len}
 use mathlib.Core.List.{IsPrefix}
 use Rattle.vt_swap.specs.Caches.{Cache}
-use Rattle.vt_definitions.specs.Depths.{IsDepth}
+use Rattle.vt_tiles.specs.Depths.{IsDepth}
 use Rattle.vt_definitions.specs.Limits.{most_samplers}
-use Rattle.vt_pages.specs.Shape.{Shape}
-use Rattle.vt_pages.specs.Pages.{pages_of}
+use Rattle.vt_tiles.specs.Shape.{Shape}
+use Rattle.vt_tiles.specs.Pages.{pages_of}
 use Rattle.vt_camera.specs.Paths.{ArePictureSides}
-use Rattle.vt_journal.specs.declared.changes.RowLine.{RowLine}
-use Rattle.vt_word_workers.specs.Samplers.{row_at, version_at}
+use Rattle.vt_pictures.specs.JournalTypes.changes.RowLine.{RowLine}
+use Rattle.vt_pass.specs.Samplers.{row_at, version_at}
 use Rattle.vt_swap.specs.LogTypes.records.LogRecord.{LogRecord}
 use Rattle.vt_swap.specs.Readers.{ReaderView}
 use Rattle.vt_swap_workers.specs.declared.workers.SwapDrawer.{SwapDrawer}
-use Rattle.vt_word_workers.specs.DealtRows.{IsSamplerOf}
+use Rattle.vt_pass.specs.DealtRows.{IsSamplerOf}
 use Rattle.vt_swap_machine.specs.declared.draw_kit.DrawKit.{DrawKit}
 
 -- the bytes of a row of a sampler, if it is there

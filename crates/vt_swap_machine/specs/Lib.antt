@@ -2,3 +2,4 @@ pub mod DrawKits
 pub mod SwapPasses
 pub mod SwapMachines
 pub mod SwapLaws
+pub mod Filled

@@ -6,21 +6,21 @@ use Rattle.vt_outside.specs.declared.outside.File.{Ghosts as FileMeanings}
 use Rattle.vt_outside.specs.declared.answers.NoMemory.{NoMemory}
 use Rattle.vt_pictures.specs.declared.filters.Filter.{Ghosts as FilterMeanings}
 use Rattle.vt_tiles.specs.StoreViews.{StoreView}
-use Rattle.vt_loaders.specs.declared.queued.Queues.{Queues}
-use Rattle.vt_loaders.specs.QueuedLoaders.{QueuedView, HasLoaded, stores_of}
-use Rattle.vt_machine.specs.Jobs.{Job}
-use Rattle.vt_machine.specs.All.{AllDid}
-use Rattle.vt_machine.specs.declared.crew.PassReport.{PassReport}
-use Rattle.vt_machine.specs.Drawings.{drawing_of}
-use Rattle.vt_machine.specs.Machines.{files_of, told_by}
-use Rattle.vt_machine.specs.Passes.{IsJobFor, IsUntouched}
+use Rattle.vt_load.specs.declared.queued.Queues.{Queues}
+use Rattle.vt_load.specs.QueuedLoaders.{QueuedView, HasLoaded, stores_of}
+use Rattle.vt_loading.specs.Jobs.{Job}
+use Rattle.vt_loading.specs.All.{AllDid}
+use Rattle.vt_loading.specs.MachineTypes.crew.PassReport.{PassReport}
+use Rattle.vt_loading.specs.Drawings.{drawing_of}
+use Rattle.vt_loading.specs.Machines.{files_of, told_by}
+use Rattle.vt_loading.specs.Passes.{IsJobFor, IsUntouched}
 use Rattle.vt_pass.specs.WordLaws.{ends_after}
 use Rattle.vt_swap.specs.LogTypes.frame.FrameKey.{FrameKey}
 use Rattle.vt_swap_workers.specs.declared.workers.SwapDrawer.{SwapDrawer}
 use Rattle.vt_swap_workers.specs.declared.workers.SwapFeeder.{SwapFeeder}
 use Rattle.vt_swap_workers.specs.SwapTasks.{HasDrawn, HasFed}
-use Rattle.vt_stream_kit.specs.StreamKits.{StreamKitView, AreLoadersOut, stream_before}
-use Rattle.vt_stream_kit.specs.StreamBacks.{round, stream_begun, stream_back}
+use Rattle.vt_loading.specs.StreamKits.{StreamKitView, AreLoadersOut, stream_before}
+use Rattle.vt_loading.specs.StreamBacks.{round, stream_begun, stream_back}
 use Rattle.vt_swap_machine.specs.declared.draw_kit.DrawKit.{DrawKit}
 use Rattle.vt_swap_machine.specs.DrawKits.{IsReadyDraw}
 use Rattle.vt_swap_machine.specs.SwapPasses.{MayEndDraw, entered_by}

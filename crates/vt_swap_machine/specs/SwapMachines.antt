@@ -4,27 +4,27 @@ use Rattle.vt_definitions.specs.Limits.{most_frames, most_versions}
 use Rattle.vt_outside.specs.Lists.{ListView}
 use Rattle.vt_outside.specs.declared.outside.File.{Ghosts as FileMeanings}
 use Rattle.vt_outside.specs.declared.answers.NoMemory.{NoMemory}
-use Rattle.vt_pages.specs.Pages.{IsWithinLimits}
+use Rattle.vt_tiles.specs.Pages.{IsWithinLimits}
 use Rattle.vt_camera.specs.Paths.{PathView}
 use Rattle.vt_pictures.specs.declared.filters.Filter.{Ghosts as FilterMeanings}
-use Rattle.vt_journal.specs.declared.changes.Change.{Change}
-use Rattle.vt_journal.specs.Changes.{newest}
+use Rattle.vt_pictures.specs.JournalTypes.changes.Change.{Change}
+use Rattle.vt_pictures.specs.Changes.{newest}
 use Rattle.vt_evict.specs.PlanTypes.batches.Planned.{Planned}
-use Rattle.vt_loaders.specs.declared.queued.Queues.{Queues}
-use Rattle.vt_loaders.specs.QueuedLoaders.{QueuedView}
-use Rattle.vt_machine.specs.Jobs.{Job}
-use Rattle.vt_machine.specs.declared.crew.PassReport.{PassReport}
-use Rattle.vt_machine.specs.Drawings.{drawing_of}
-use Rattle.vt_machine.specs.Machines.{Setup, MachineState, files_of, told_by}
-use Rattle.vt_machine.specs.Outcomes.{IsBatchFor}
-use Rattle.vt_machine.specs.Passes.{Ends}
+use Rattle.vt_load.specs.declared.queued.Queues.{Queues}
+use Rattle.vt_load.specs.QueuedLoaders.{QueuedView}
+use Rattle.vt_loading.specs.Jobs.{Job}
+use Rattle.vt_loading.specs.MachineTypes.crew.PassReport.{PassReport}
+use Rattle.vt_loading.specs.Drawings.{drawing_of}
+use Rattle.vt_loading.specs.Machines.{Setup, MachineState, files_of, told_by}
+use Rattle.vt_loading.specs.Outcomes.{IsBatchFor}
+use Rattle.vt_loading.specs.Passes.{Ends}
 use Rattle.vt_swap.specs.LogTypes.frame.FrameKey.{FrameKey}
 use Rattle.vt_swap.specs.Slots.{AreSlotsOf}
-use Rattle.vt_swap_noted.specs.Filled.{AreStoredFills}
+use Rattle.vt_swap_machine.specs.Filled.{AreStoredFills}
 use Rattle.vt_swap_workers.specs.declared.workers.SwapDrawer.{SwapDrawer}
 use Rattle.vt_swap_workers.specs.declared.workers.SwapFeeder.{SwapFeeder}
 use Rattle.vt_swap_workers.specs.SwapTasks.{HasFed}
-use Rattle.vt_stream_kit.specs.StreamKits.{StreamKitView, IsStreamKit, IsAskedStream, AreLoadersOut, StreamBegun, stream_before, MayEndStream}
+use Rattle.vt_loading.specs.StreamKits.{StreamKitView, IsStreamKit, IsAskedStream, AreLoadersOut, StreamBegun, stream_before, MayEndStream}
 use Rattle.vt_swap_machine.specs.declared.draw_kit.DrawKit.{DrawKit}
 use Rattle.vt_swap_machine.specs.DrawKits.{IsIdleDraw, IsReadyDraw, drawn_rows}
 use Rattle.vt_swap_machine.specs.SwapPasses.{WasDrawn, MayEndDraw, entered_by}

@@ -2,13 +2,13 @@
 use Rattle.std.specs.Prelude.{◌≡◌, ℕ, ◌%◌, ◌<◌, false, Some, List, length, slice_get, slice_index, All, Contains, Option, None, [], slice_index_or}
 use Rattle.vt_swap.specs.Caches.{Cache}
 use Rattle.vt_camera.specs.Paths.{PathView}
-use Rattle.vt_pages.specs.Shape.{Shape}
-use Rattle.vt_draw.specs.Shots.{shot_row}
+use Rattle.vt_tiles.specs.Shape.{Shape}
+use Rattle.vt_pictures.specs.Shots.{shot_row}
 use Rattle.vt_pictures.specs.declared.filters.Filter.{Ghosts as FilterMeanings}
 use Rattle.vt_pictures.specs.Evidence.{AreShown}
-use Rattle.vt_journal.specs.declared.changes.RowLine.{RowLine}
+use Rattle.vt_pictures.specs.JournalTypes.changes.RowLine.{RowLine}
 use Rattle.vt_pictures.specs.Scenes.{Scene}
-use Rattle.vt_machine.specs.All.{AllDid}
+use Rattle.vt_loading.specs.All.{AllDid}
 use Rattle.vt_swap.specs.Logs.{changes_in, IsLawful}
 use Rattle.vt_swap.specs.Notes.{IsSaidBy}
 use Rattle.vt_swap.specs.Readers.{ReaderView}
@@ -18,7 +18,7 @@ use Rattle.vt_swap_workers.specs.declared.workers.SwapFeeder.{SwapFeeder}
 use Rattle.vt_swap_workers.specs.SwapTasks.{HasDrawn}
 use Rattle.vt_swap_machine.specs.declared.draw_kit.DrawKit.{DrawKit}
 use Rattle.vt_swap_machine.specs.DrawKits.{IsReadyDraw, IsToldBy, lines_of, counted_together, drawn_rows}
-use Rattle.vt_machine.specs.Jobs.{Job}
+use Rattle.vt_loading.specs.Jobs.{Job}
 use Rattle.vt_swap_workers.specs.Entered.{WasEnteredBetween}
 
 -- a row of a picture was drawn by a filter at a version by what a streamer's log says, and the version is one that the reader of its sampler entered

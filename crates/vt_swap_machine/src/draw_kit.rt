@@ -4,8 +4,8 @@ ghost use Rattle.std.specs.Prelude.{◌≡◌, ◌<◌, ◌≤◌, ◌^◌, ℕ,
 ghost use Rattle.std.specs.List.{concat};
 ghost use Rattle.vt_swap.specs.Caches.{Cache};
 ghost use Rattle.vt_definitions.specs.Limits.{most_samplers};
-ghost use Rattle.vt_definitions.specs.Depths.{IsDepth};
-ghost use Rattle.vt_pages.specs.Pages.{pages_of};
+ghost use Rattle.vt_tiles.specs.Depths.{IsDepth};
+ghost use Rattle.vt_tiles.specs.Pages.{pages_of};
 ghost use Rattle.vt_swap.specs.Making.{IsNewReader};
 ghost use Rattle.vt_swap_machine.specs.DrawKits.{AreDrawers, HasReader, IsDrawKit, IsIdleDraw, IsReadyDraw, HasLineRoom, drawn_row, drawn_rows, counted_together};
 ghost use Rattle.vt_swap_machine.specs.SwapPasses.{HasTold};
@@ -17,12 +17,11 @@ use vt_camera::Path;
 use vt_definitions::texel_length;
 use vt_feedback::Counts;
 use vt_journal::RowLines;
+use vt_loading::{sampler_of, with_room};
 use vt_outside::{Items, NoMemory};
 use vt_pages::Geometry;
-use vt_requests::sampler_of;
 use vt_swap::TableReader;
 use vt_swap_workers::{SwapDrawer, SwapFeeder, SwapSampler};
-use vt_word_workers::with_room;
 
 /// What the samplers of a pass over a page cache are done with: the samplers with their readers, how many texels the last picture needs of
 /// each page, and room for what a pass tells of the rows.

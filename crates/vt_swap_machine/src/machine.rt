@@ -1,11 +1,11 @@
 //! The machine over a page cache whose page table lies in two copies.
 
 ghost use Rattle.std.specs.Prelude.{◌≡◌, [], IfOk, OnOk, OnErr};
-ghost use Rattle.vt_definitions.specs.Depths.{IsDepth};
-ghost use Rattle.vt_machine.specs.Crews.{IsCrew, AreFrames};
-ghost use Rattle.vt_machine.specs.Drawings.{drawing_of};
-ghost use Rattle.vt_machine.specs.Machines.{AreStoresFor};
-ghost use Rattle.vt_machine.specs.Jobs.{job_of};
+ghost use Rattle.vt_tiles.specs.Depths.{IsDepth};
+ghost use Rattle.vt_loading.specs.Crews.{IsCrew, AreFrames};
+ghost use Rattle.vt_loading.specs.Drawings.{drawing_of};
+ghost use Rattle.vt_loading.specs.Machines.{AreStoresFor};
+ghost use Rattle.vt_loading.specs.Jobs.{job_of};
 ghost use Rattle.vt_swap_machine.specs.SwapMachines.{SwapView, swap_state, IsIdleBy, IsReadyBy, drawn_by, AreOut, Begun, MayFinish, SwapFinishes};
 ghost use Rattle.vt_swap_machine.specs.SwapPasses.{entered_by};
 
@@ -17,19 +17,16 @@ use std::mem;
 use std::sync::Wait;
 use std::thread::Threads;
 use vt_camera::Path;
-use vt_draw::Shot;
 use vt_evict::Batch;
 use vt_feedback::Counts;
 use vt_journal::Journal;
-use vt_loaders::QueuedLoader;
-use vt_machine::{Crew, PassMachine, PassReport};
+use vt_load::QueuedLoader;
+use vt_loading::{Crew, PassMachine, PassReport, StreamKit, blank_report, new_queues};
 use vt_outside::{File, Gate, Items, NoMemory};
 use vt_pages::Geometry;
-use vt_pictures::{Filter, Nearest};
-use vt_stream_kit::StreamKit;
+use vt_pictures::{Filter, Nearest, Shot};
 use vt_swap_workers::{SwapDrawer, SwapFeeder, SwapShared};
 use vt_tiles::Stores;
-use vt_word_workers::{blank_report, new_queues};
 
 /// A machine that draws the rows of a picture by a filter, each in the version of the page table that its sampler enters for it, where a
 /// row is drawn anew when a frame does not have the tile that the version says; and that streams the batch at the same time. The table lies

@@ -1,19 +1,19 @@
 //! What the machine over a page cache does between and around its passes.
 
 ghost use Rattle.std.specs.Prelude.{◌≡◌, ◌<◌, ◌≤◌, ◌*◌, false, None, All, IfOk, OnOk, OnErr, length};
-ghost use Rattle.vt_definitions.specs.Depths.{IsDepth};
+ghost use Rattle.vt_tiles.specs.Depths.{IsDepth};
 ghost use Rattle.vt_definitions.specs.Limits.{most_frames, most_samplers};
-ghost use Rattle.vt_pages.specs.Pages.{IsWithinLimits, pages_of};
-ghost use Rattle.vt_journal.specs.declared.changes.Change.TheVariants.{Map};
-ghost use Rattle.vt_journal.specs.Changes.{newest, IsNext};
+ghost use Rattle.vt_tiles.specs.Pages.{IsWithinLimits, pages_of};
+ghost use Rattle.vt_pictures.specs.JournalTypes.changes.Change.TheVariants.{Map};
+ghost use Rattle.vt_pictures.specs.Changes.{newest, IsNext};
 ghost use Rattle.vt_tiles.specs.Format.{tile_length};
-ghost use Rattle.vt_machine.specs.Crews.{last_start};
-ghost use Rattle.vt_machine.specs.Outcomes.{IsBatchFor};
-ghost use Rattle.vt_machine.specs.Jobs.{job_of};
+ghost use Rattle.vt_loading.specs.Crews.{last_start};
+ghost use Rattle.vt_loading.specs.Outcomes.{IsBatchFor};
+ghost use Rattle.vt_loading.specs.Jobs.{job_of};
 ghost use Rattle.vt_swap.specs.Slots.{AreSlotsOf};
 ghost use Rattle.vt_swap.specs.Streamers.{HasMapped, IsRefused};
 ghost use Rattle.vt_swap.specs.Making.{IsNewStreamer};
-ghost use Rattle.vt_stream_kit.specs.StreamKits.{IsSameStream, HasEndedStream};
+ghost use Rattle.vt_loading.specs.StreamKits.{IsSameStream, HasEndedStream};
 ghost use Rattle.vt_swap_machine.specs.DrawKits.{HasReader, IsDrawKit};
 ghost use Rattle.vt_swap_machine.specs.SwapPasses.{HasTold};
 ghost use Rattle.vt_swap_machine.specs.SwapMachines.{IsIdleSwap, IsReadySwap, Begun, MayFinish};
@@ -23,14 +23,12 @@ use std::alloc::Global;
 use std::sync::Wait;
 use std::thread::Threads;
 use vt_camera::Path;
-use vt_draw::Shot;
 use vt_evict::Batch;
-use vt_loaders::QueuedLoader;
-use vt_machine::PassReport;
+use vt_load::QueuedLoader;
+use vt_loading::{PassReport, StreamKit};
 use vt_outside::{File, Items, NoMemory};
 use vt_pages::Geometry;
-use vt_pictures::Filter;
-use vt_stream_kit::StreamKit;
+use vt_pictures::{Filter, Shot};
 use vt_swap::{Slot, SwapStreamer, new_cache};
 use vt_swap_workers::{SwapDrawer, SwapFeeder, SwapShared};
 

@@ -1,14 +1,14 @@
 //! What a pass over a page cache tells of its samplers.
 
 ghost use Rattle.std.specs.Prelude.{◌≡◌, ℕ, ◌^◌, ◌<◌, ◌≤◌, [], All, IsTrue, length, slice_index, slice_index_or};
-ghost use Rattle.vt_pages.specs.Shape.{Shape};
+ghost use Rattle.vt_tiles.specs.Shape.{Shape};
 ghost use Rattle.vt_swap_workers.specs.declared.workers.SwapDrawer.{SwapDrawer as Task};
 ghost use Rattle.vt_swap_machine.specs.DrawKits.{AreDrawers, HasReader, IsToldBy, lines_of, counted_together};
 ghost use Rattle.vt_swap_machine.specs.SwapPasses.{IsIntact};
 
 use vt_feedback::Counts;
 use vt_journal::{RowLine, RowLines};
-use vt_requests::sampler_of;
+use vt_loading::sampler_of;
 use vt_swap::SwapStreamer;
 use vt_swap_workers::{SwapDrawer, SwapFeeder};
 

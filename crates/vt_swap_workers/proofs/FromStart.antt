@@ -4,7 +4,7 @@ use Rattle.std.specs.Prelude.{All, Contains}
 use Rattle.std.proofs.lemmas.List.Elements.{All-contains, Contains-append_left}
 use Rattle.vt_swap.specs.Readers.{ReaderView}
 use Rattle.vt_swap.proofs.Entering.{all_behind}
-use Rattle.vt_swap_sampler.specs.Entered.{WasEnteredBetween}
+use Rattle.vt_swap_workers.specs.Entered.{WasEnteredBetween}
 use Rattle.vt_swap_workers.specs.SwapTasks.{HasSeen}
 
 module _ (start : ℕ) (r first q : ReaderView) (version : ℕ) (seen : HasSeen start r first) (was : WasEnteredBetween first q version) where

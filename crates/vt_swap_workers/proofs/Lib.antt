@@ -1,2 +1,5 @@
-pub use Rattle.vt_swap_sampler.proofs.EnteredRows
 pub mod FromStart
+pub mod EnteredRows
+pub mod Putting
+pub mod Taking
+pub mod Lasting

@@ -1,26 +1,26 @@
 -- What the samplers and the streamer of a pass over a page cache ask and leave.
 use Rattle.std.specs.Prelude.{◌≡◌, ℕ, ◌+◌, ◌*◌, ◌^◌, ◌<◌, ◌≤◌, ◌++◌, false, Some, List, length, reverse, slice_index}
-use Rattle.vt_draw.specs.Depths.{IsDepth}
-use Rattle.vt_pages.specs.Limits.{most_frames, most_versions}
-use Rattle.vt_draw.specs.Shots.{shot_row, wants_in_rows}
-use Rattle.vt_pictures.specs.Changes.{newest}
-use Rattle.vt_swap_sampler.specs.Samplers.{IsOwn, IsFor, own_rows, row_at, row_length, version_at}
-use Rattle.vt_pictures.specs.Scenes.{Scene}
-use Rattle.vt_pictures.specs.declared.filters.Filter.{Ghosts as FilterMeanings}
-use Rattle.vt_pictures.specs.Evidence.{AreShown}
-use Rattle.vt_plan.specs.declared.batches.Planned.{Planned}
-use Rattle.vt_swap_streaming.specs.Outcomes.{IsBatchFor}
+use Rattle.vt_definitions.specs.Depths.{IsDepth}
+use Rattle.vt_definitions.specs.Limits.{most_frames, most_versions}
+use Rattle.vt_sampler.specs.Shots.{shot_row, wants_in_rows}
+use Rattle.vt_journal.specs.Changes.{newest}
+use Rattle.vt_sampler.specs.Samplers.{IsOwn, IsFor, own_rows, row_at, row_length, version_at}
+use Rattle.vt_sampler.specs.Scenes.{Scene}
+use Rattle.vt_sampler.specs.PicturesTypes.filters.Filter.{Ghosts as FilterMeanings}
+use Rattle.vt_sampler.specs.Evidence.{AreShown}
+use Rattle.vt_evict.specs.PlanTypes.batches.Planned.{Planned}
+use Rattle.vt_streaming.specs.Outcomes.{IsBatchFor}
 use Rattle.vt_queue.specs.Queues.{view_of, splits_of, IsOf}
-use Rattle.vt_loaders.specs.declared.queued.Queues.{Queues}
-use Rattle.vt_swap_streaming.specs.BatchRounds.{result_events, AreLossesOf}
-use Rattle.vt_swap_streaming.specs.Streams.{Streams}
-use Rattle.vt_swap_streaming.specs.Reports.{IsBlank}
+use Rattle.vt_load.specs.declared.queued.Queues.{Queues}
+use Rattle.vt_streaming.specs.BatchRounds.{result_events, AreLossesOf}
+use Rattle.vt_streaming.specs.TakenResults.{Streams}
+use Rattle.vt_streaming.specs.BlankReports.{IsBlank}
 use Rattle.vt_swap.specs.LogTypes.frame.FrameKey.{FrameKey}
 use Rattle.vt_swap.specs.Slots.{AreSlotsOf}
 use Rattle.vt_swap.specs.Notes.{IsSaidBy}
 use Rattle.vt_swap.specs.Readers.{ReaderView, WasEntered}
-use Rattle.vt_swap_sampler.specs.Entered.{WasEnteredBetween, HasEnteredRows}
-use Rattle.vt_swap_streaming.specs.Brought.{HasStreamed}
+use Rattle.vt_swap_workers.specs.Entered.{WasEnteredBetween, HasEnteredRows}
+use Rattle.vt_swap_workers.specs.Brought.{HasStreamed}
 use Rattle.vt_swap_workers.specs.declared.workers.SwapDrawer.{SwapDrawer}
 use Rattle.vt_swap_workers.specs.declared.workers.SwapFeeder.{SwapFeeder}
 

@@ -3,13 +3,12 @@
 use std::marker::PhantomData;
 use std::sync::Wait;
 use std::thread::Threads;
-use vt_draw::Shot;
-use vt_loaders::{QueuedLoader, Queues};
+use vt_evict::Planned;
+use vt_load::{QueuedLoader, Queues};
 use vt_outside::{File, Gate, Items};
-use vt_pictures::Filter;
-use vt_plan::Planned;
+use vt_sampler::{Filter, Shot};
+use vt_streaming::Task;
 use vt_swap::Slot;
-use vt_workers::Task;
 
 /// What the workers of a pass over a page cache have in common.
 #[derive(Drop)]
@@ -25,7 +24,7 @@ pub struct SwapShared<P: Filter> {
 }
 
 impl<F: File, P: Filter + Sync> Task<SwapShared<P>> for QueuedLoader<F> {
-    ghost use Rattle.vt_loaders.specs.QueuedLoaders.{MayLoad, HasLoaded};
+    ghost use Rattle.vt_load.specs.QueuedLoaders.{MayLoad, HasLoaded};
 
     ghost ready = { λ shared job loader. MayLoad F.File shared.queues loader };
 

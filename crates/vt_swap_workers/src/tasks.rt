@@ -1,22 +1,21 @@
 //! What samplers and streamer of a pass over a page cache do.
 
-ghost use Rattle.vt_pictures.specs.Scenes.{scene_of};
+ghost use Rattle.vt_sampler.specs.Scenes.{scene_of};
 ghost use Rattle.vt_swap_workers.specs.SwapTasks.{MayDraw, HasDrawn, MayStream, HasFed};
 
 use crate::seen::see;
 use crate::shared::SwapShared;
+use crate::stream::stream_swapped;
 use crate::workers::{SwapDrawer, SwapFeeder};
 use std::mem;
 use std::sync::Wait;
 use std::thread::Threads;
-use vt_draw::Shot;
-use vt_loaders::Queues;
+use vt_evict::Planned;
+use vt_load::Queues;
 use vt_outside::Gate;
-use vt_pictures::Filter;
-use vt_plan::Planned;
+use vt_sampler::{Filter, Shot};
+use vt_streaming::Task;
 use vt_swap::Slot;
-use vt_swap_streaming::stream_swapped;
-use vt_workers::Task;
 
 // Lets a sampler see the version at which the pass starts, and then draw its rows by a filter with its reader, which it has back
 // afterwards.

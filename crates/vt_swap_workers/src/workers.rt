@@ -1,10 +1,10 @@
 //! The workers of a pass over a page cache, as they lie in its machine.
 
+use crate::sampler::SwapSampler;
 use vt_pages::Geometry;
 use vt_queue::{Loaded, QueuePass};
+use vt_streaming::StreamReport;
 use vt_swap::{SwapStreamer, TableReader};
-use vt_swap_sampler::SwapSampler;
-use vt_swap_streaming::StreamReport;
 
 /// A sampler with its reader of the page cache. It is without one only while it draws.
 #[derive(Drop)]

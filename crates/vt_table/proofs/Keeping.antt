@@ -1,8 +1,8 @@
 -- What a table keeps after each of its calls.
 use Rattle.std.proofs.Common.{◌≡◌, ◌≢◌, ℕ, ◌+◌, ◌*◌, ◌≤◌, ◌<◌, inl, inr, List, [], ◌∷◌, ◌++◌, length, get_or, set, refl, sym, ap, ◌∙◌, subst, arith, length-set, get_or-set_other, get_or-set_same}
 use Rattle.std.proofs.lemmas.Nat.{mul-le}
-use Rattle.vt_definitions.specs.Limits.{most_frames, most_frame_texels}
-use Rattle.vt_definitions.specs.Depths.{texel_length}
+use Rattle.vt_journal.specs.Limits.{most_frames, most_frame_texels}
+use Rattle.vt_journal.specs.Depths.{texel_length}
 use Rattle.std.specs.Prelude.{slice_range}
 use Rattle.vt_journal.specs.Shape.{Shape}
 use Rattle.vt_journal.specs.Pages.{pages_of, IsWithinLimits}

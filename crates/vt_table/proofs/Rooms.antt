@@ -7,7 +7,7 @@ use Rattle.std.proofs.lemmas.Nat.{mul-le}
 use Rattle.std.proofs.lemmas.Bool.{cases_lt}
 use Rattle.std.proofs.lemmas.Slice.{take-put_mid_below, drop-put_mid}
 use borrow.Rule.Slice.PartMut.{put_mid}
-use Rattle.vt_definitions.specs.Depths.{texel_length}
+use Rattle.vt_journal.specs.Depths.{texel_length}
 use Rattle.vt_table.specs.Kept.{room_of, tile_in, tiles_in}
 
 -- what is before a piece that is written

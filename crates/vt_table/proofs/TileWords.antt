@@ -1,7 +1,7 @@
 -- The words of a tile.
 use Rattle.std.proofs.Common.{◌≡◌, ℕ, ◌+◌, ◌*◌, ◌/◌, ◌≤◌, List, length, ap, ◌∙◌, arith}
 use Rattle.std.proofs.lemmas.Nat.{div-mul-add, mul-le}
-use Rattle.vt_definitions.specs.Depths.{texel_length, word_at}
+use Rattle.vt_journal.specs.Depths.{texel_length, word_at}
 use Rattle.vt_journal.specs.Shape.{Shape}
 use Rattle.vt_table.specs.Views.{tile_depth, tile_word}
 

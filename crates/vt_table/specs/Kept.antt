@@ -1,8 +1,8 @@
 -- What a page table keeps: for each page a number, and for each frame a room of bytes and the depth of its tile.
 use Rattle.std.specs.Prelude.{◌≡◌, ℕ, ◌+◌, ◌*◌, ◌<◌, ◌≤◌, List, length, map, slice_index, slice_range}
 use Rattle.std.specs.List.{range_with_len}
-use Rattle.vt_definitions.specs.Depths.{texel_length}
-use Rattle.vt_definitions.specs.Limits.{most_frame_texels}
+use Rattle.vt_journal.specs.Depths.{texel_length}
+use Rattle.vt_journal.specs.Limits.{most_frame_texels}
 use Rattle.vt_journal.specs.Shape.{Shape}
 use Rattle.vt_journal.specs.Pages.{pages_of}
 use Rattle.vt_journal.specs.declared.changes.Change.{Change}

@@ -1,5 +1,5 @@
-pub use Rattle.vt_definitions.specs.Depths
 pub use Rattle.vt_journal.specs.Changes
+pub use Rattle.vt_journal.specs.Depths
 pub use Rattle.vt_journal.specs.Kept as JournalKept
 pub use Rattle.vt_journal.specs.Lookups
 pub use Rattle.vt_journal.specs.Pages

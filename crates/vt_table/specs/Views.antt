@@ -1,7 +1,7 @@
 -- What contracts see of a page table that changes only between draws, with the tiles of its frames.
 use Rattle.std.specs.Prelude.{◌≡◌, ℕ, ◌*◌, ◌/◌, ◌<◌, ◌≤◌, Some, None, List, [], length, slice_index_or}
-use Rattle.vt_definitions.specs.Limits.{most_frames}
-use Rattle.vt_definitions.specs.Depths.{IsDepth, texel_length, word_at}
+use Rattle.vt_journal.specs.Limits.{most_frames}
+use Rattle.vt_journal.specs.Depths.{IsDepth, texel_length, word_at}
 use Rattle.vt_journal.specs.Shape.{Shape}
 use Rattle.vt_journal.specs.Pages.{pages_of, IsWithinLimits}
 use Rattle.vt_journal.specs.declared.changes.Change.{Change}

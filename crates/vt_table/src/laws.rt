@@ -1,7 +1,7 @@
 //! Laws of the definitions: each is the contract of a function that does nothing.
 
 ghost use Rattle.std.specs.Prelude.{◌≡◌, ◌≢◌, ℕ, ◌*◌, ◌≤◌, List, [], ◌∷◌, ◌++◌, length};
-ghost use Rattle.vt_definitions.specs.Depths.{texel_length, word_at};
+ghost use Rattle.vt_journal.specs.Depths.{texel_length, word_at};
 ghost use Rattle.vt_journal.specs.Shape.{Shape};
 ghost use Rattle.vt_journal.specs.declared.changes.Change.{Change};
 ghost use Rattle.vt_journal.specs.Changes.{newest, IsFree};

@@ -8,4 +8,4 @@ mod table;
 pub use laws::{held_tiles_stay, tile_word_has_its_depth};
 pub use steps::{depth_in, free_owner, put_entry};
 pub use table::StillTable;
-pub use vt_journal::{Change, Journal};
+pub use vt_journal::{Change, Geometry, Journal};

@@ -1,7 +1,7 @@
 //! The steps of a table, on what it keeps.
 
 ghost use Rattle.std.specs.Prelude.{◌≡◌, ◌≢◌, ℕ, ◌+◌, ◌<◌, ◌≤◌, length, slice_range};
-ghost use Rattle.vt_definitions.specs.Limits.{most_frames};
+ghost use Rattle.vt_journal.specs.Limits.{most_frames};
 ghost use Rattle.vt_journal.specs.Changes.{changed};
 ghost use Rattle.vt_journal.specs.Lookups.{change_page};
 ghost use Rattle.vt_journal.specs.Kept.{entries_of, change_frame};

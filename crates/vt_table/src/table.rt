@@ -1,8 +1,8 @@
 //! The page table and the tiles of its frames.
 
 ghost use Rattle.std.specs.Prelude.{◌≡◌, ◌≢◌, ℕ, ◌+◌, ◌*◌, ◌<◌, ◌≤◌, Some, [], ◌∷◌, ◌++◌, length, IfOk, OnOk, OnErr};
-ghost use Rattle.vt_definitions.specs.Limits.{most_frames, most_frame_texels, most_versions};
-ghost use Rattle.vt_definitions.specs.Depths.{IsDepth, texel_length};
+ghost use Rattle.vt_journal.specs.Limits.{most_frames, most_frame_texels, most_versions};
+ghost use Rattle.vt_journal.specs.Depths.{IsDepth, texel_length};
 ghost use Rattle.vt_journal.specs.Pages.{pages_of};
 ghost use Rattle.vt_journal.specs.Changes.{newest, nothing_mapped, IsFree, IsLegalNext};
 ghost use Rattle.vt_table.specs.Views.{TableView, tile_of, filled_for, filled_after, IsReady, IsWithin, IsMapped, IsTile, word_in, IsTable};
@@ -10,9 +10,7 @@ ghost use Rattle.vt_table.specs.Views.{TableView, tile_of, filled_for, filled_af
 use crate::steps::{depth_in, free_owner, put_entry, put_tile};
 use std::alloc::Global;
 use std::marker::Model;
-use vt_definitions::{texel_length, word_in};
-use vt_journal::{Change, Geometry, Journal};
-use vt_outside::NoMemory;
+use vt_journal::{Change, Geometry, Journal, NoMemory, texel_length, word_in};
 
 /// A page table that maps pages to frames, and the tiles of the frames (Mayer 2010). It changes only between draws.
 /// Contracts see the changes that made its versions with the room for more, and of each frame the tile with which it was

@@ -3,7 +3,7 @@
 use crate::fixtures::sink_failing_at;
 use std::alloc::Global;
 use vt_outside::{Fails, MemorySink};
-use vt_print::{Line, Place, put_pieces, tell_bad_input, tell_pieces, tell_place};
+use vt_text::{Line, Place, put_pieces, tell_bad_input, tell_pieces, tell_place};
 
 // Adds words and a number to a line, where there is room for them.
 fn gains(line: &mut Line, words: &[u8], number: u64) -> bool {

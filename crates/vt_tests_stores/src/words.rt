@@ -5,16 +5,17 @@ mod journals;
 use crate::fixtures::no_row_is_wrong;
 use std::alloc::Global;
 use std::process::Abort;
+use vt_command_words::{
+    Filtering, MachineChoice, ReplayWords, WalkWords, WalkingCommand, WordsError,
+    read_walking_command, walking_kind_of,
+};
+use vt_pictures::{is_picture_name, picture_name};
 use vt_store_commands::commands::generate::GenWords;
 use vt_store_commands::commands::plain::PlainWords;
 use vt_store_commands::commands::tile::TileWords;
 use vt_store_commands::commands::{StoreCommand, read_store_command};
 use vt_text::lines::field;
 use vt_text::numbers::decimal;
-use vt_words::{
-    Filtering, MachineChoice, ReplayWords, WalkWords, WalkingCommand, WordsError, is_picture_name,
-    picture_name, read_walking_command, walking_kind_of,
-};
 
 // Whether the fields of a text from one on are these words.
 fn are_words(text: &[u8], first: usize, words: &[&str]) -> bool {

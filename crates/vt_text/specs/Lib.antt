@@ -1,5 +1,9 @@
 pub use Rattle.vt_definitions.specs.Limits
 pub use Rattle.vt_definitions.specs.Sides
 pub use Rattle.vt_definitions.specs.Tiles
+pub use Rattle.vt_outside.specs.Lists
 pub mod Lines
 pub mod Numbers
+pub mod Telling
+pub mod Pieces
+pub mod Places

@@ -1,13 +1,21 @@
-//! The texts of this repository, taken apart and put together: lines, fields and decimal numbers. No call takes
-//! memory.
+//! The texts of this repository, taken apart and put together: lines, fields and decimal numbers; and the one device that prints: a
+//! line on the stack for the output, and the lines of the error output. No call takes memory.
 #![tactic(auto)]
 
+mod line;
 pub mod lines;
 pub mod numbers;
+mod pieces;
+mod place;
 
+pub use line::{LINE_ROOM, Line};
 pub use lines::{field, next_line};
 pub use numbers::{decimal, put_number};
+pub use pieces::{put_pieces, tell_pieces};
+pub use place::{Place, tell_bad_input, tell_place};
 use thiserror::Error;
+pub use vt_definitions::word_in;
+pub use vt_outside::{Items, NoMemory};
 
 /// Why a field was not read as a number.
 #[derive(Clone, Copy, Debug, PartialEq, Eq, Error)]

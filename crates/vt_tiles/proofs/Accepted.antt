@@ -4,8 +4,8 @@ use Rattle.std.specs.Prelude.{not, nat_le, ◌==◌, ◌&&◌, ◌||◌, if◌th
 use Rattle.std.proofs.lemmas.Bool.Decides.{nat_tests}
 use Rattle.vt_pages.specs.declared.PagesError.{PagesError}
 use Rattle.vt_pages.specs.declared.PagesError.TheVariants.{BadTile, BadSide, TooManyPages}
-use Rattle.vt_definitions.specs.Limits.{most_tiled_side, most_pages}
-use Rattle.vt_definitions.specs.Tiles.{is_tile_side}
+use Rattle.vt_pages.specs.Limits.{most_tiled_side, most_pages}
+use Rattle.vt_pages.specs.Tiles.{is_tile_side}
 use Rattle.vt_pages.specs.Shape.{Shape, is_texture_side}
 use Rattle.vt_pages.specs.Pages.{pages_of, refusal_of}
 

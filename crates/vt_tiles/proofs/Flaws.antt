@@ -5,7 +5,7 @@ use Rattle.std.proofs.lemmas.Bool.Decides.{nat_tests}
 use Rattle.vt_pages.specs.Shape.{Shape, shape_of}
 use Rattle.vt_pages.specs.Pages.{refusal_of}
 use Rattle.vt_pages.specs.declared.PagesError.{PagesError}
-use Rattle.vt_definitions.specs.Numbers.{number_from}
+use Rattle.vt_pages.specs.Numbers.{number_from}
 use Rattle.vt_tiles.specs.Format.{flaw_of, has_magic, header_shape, store_depth, store_length, header_length}
 use Rattle.vt_tiles.specs.declared.error.StoreError.{StoreError}
 use Rattle.vt_tiles.specs.declared.error.StoreError.TheVariants.{BadMagic, BadGeometry, WrongLength}

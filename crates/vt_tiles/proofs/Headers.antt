@@ -1,8 +1,8 @@
 -- What the first bytes of a store are, and what they tell.
 use Rattle.std.proofs.Common.{◌≡◌, ℕ, zero, suc, ◌+◌, ◌/◌, ◌%◌, ◌<◌, Bool, true, false, inl, inr, List, [], ◌∷◌, ◌++◌, length, take, bytes_eq, refl, sym, ap, arith}
 use Rattle.std.specs.Prelude.{◌||◌, if◌then◌else◌, slice_index}
-use Rattle.vt_definitions.specs.Depths.{IsDepth}
-use Rattle.vt_definitions.specs.Numbers.{number_from, number_bytes}
+use Rattle.vt_pages.specs.Depths.{IsDepth}
+use Rattle.vt_pages.specs.Numbers.{number_from, number_bytes}
 use Rattle.vt_pages.specs.Shape.{Shape}
 use Rattle.vt_tiles.specs.Format.{magic, has_magic, store_depth, header_bytes}
 use Rattle.vt_tiles.specs.StoreViews.{TellsDepth}

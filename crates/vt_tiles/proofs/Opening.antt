@@ -7,7 +7,7 @@ use Rattle.std.specs.Prelude.{Result, IfOk, IfErr, IfSome, OnOk, IsErrOf, â—Œ||â
 use Rattle.vt_outside.specs.Counts.{Rose}
 use Rattle.vt_outside.specs.Files.{IsPiece}
 use Rattle.vt_outside.specs.declared.place.Place.{Place}
-use Rattle.vt_definitions.specs.Numbers.{number_from}
+use Rattle.vt_pages.specs.Numbers.{number_from}
 use Rattle.vt_pages.specs.Shape.{Shape}
 use Rattle.vt_pages.specs.Pages.{pages_of}
 use Rattle.vt_tiles.specs.Format.{flaw_of, has_magic, magic, header_shape, store_depth, store_flaw, store_length, tile_start, tile_length}

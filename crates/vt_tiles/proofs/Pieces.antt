@@ -5,7 +5,7 @@ use Rattle.std.proofs.lemmas.Nat.{mul-le, div-add-mod', div_below, mod_below}
 use Rattle.std.proofs.lemmas.Slice.{drop-put_mid}
 use Rattle.std.specs.Prelude.{slice_index, flat_map}
 use borrow.Rule.Slice.PartMut.{put_mid, post_of}
-use Rattle.vt_definitions.specs.Depths.{IsDepth, texel_length, sample_at, word_of, word_at, word_bytes, bytes_from}
+use Rattle.vt_pages.specs.Depths.{IsDepth, texel_length, sample_at, word_of, word_at, word_bytes, bytes_from}
 use Rattle.vt_tiles.specs.TileLines.{piece_at}
 use Rattle.vt_tiles.proofs.Headers.{number_same}
 

@@ -4,11 +4,11 @@ use Rattle.std.proofs.lemmas.List.{get_or-take, get_or-drop, length-append, leng
 use Rattle.std.proofs.Math.Seq.{drop-append_seam}
 use Rattle.std.proofs.lemmas.Nat.{mul-add-lt, mod_below}
 use Rattle.std.specs.Prelude.{slice_index}
-use Rattle.vt_definitions.specs.Depths.{IsDepth, AreBytes, texel_length, word_bytes}
-use Rattle.vt_definitions.specs.Numbers.{number_from, number_bytes}
-use Rattle.vt_definitions.specs.Texels.{Source}
-use Rattle.vt_definitions.proofs.Words.{bytes_make_word}
-use Rattle.vt_definitions.proofs.TexelWords.{words_small}
+use Rattle.vt_pages.specs.Depths.{IsDepth, AreBytes, texel_length, word_bytes}
+use Rattle.vt_pages.specs.Numbers.{number_from, number_bytes}
+use Rattle.vt_pages.specs.Texels.{Source}
+use Rattle.vt_pages.proofs.Words.{bytes_make_word}
+use Rattle.vt_pages.proofs.TexelWords.{words_small}
 use Rattle.vt_outside.specs.Files.{IsPiece}
 use Rattle.vt_pages.specs.Shape.{Shape}
 use Rattle.vt_pages.specs.Pages.{pages_of, refusal_of, texel_page}

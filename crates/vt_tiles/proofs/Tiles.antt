@@ -2,10 +2,10 @@
 use Rattle.std.proofs.Common.{◌≡◌, ℕ, ◌+◌, ◌*◌, ◌/◌, ◌%◌, ◌<◌, ◌≤◌, length, ap, ◌∙◌, arith}
 use Rattle.std.proofs.lemmas.List.FromFn.{get_or-map-range_with_len, length-map-range_with_len}
 use Rattle.std.specs.Prelude.{slice_index}
-use Rattle.vt_definitions.specs.Depths.{IsDepth, texel_length, word_bytes}
-use Rattle.vt_definitions.specs.Limits.{most_tiled_side}
-use Rattle.vt_definitions.specs.Sides.{side}
-use Rattle.vt_definitions.specs.Texels.{Source}
+use Rattle.vt_pages.specs.Depths.{IsDepth, texel_length, word_bytes}
+use Rattle.vt_pages.specs.Limits.{most_tiled_side}
+use Rattle.vt_pages.specs.Sides.{side}
+use Rattle.vt_pages.specs.Texels.{Source}
 use Rattle.vt_pages.specs.Shape.{Shape}
 use Rattle.vt_pages.specs.Pages.{IsWithinLimits, rows_at, name_at, clamped_word, tile_words}
 use Rattle.vt_pages.proofs.Counts.{lt_up, side_most}

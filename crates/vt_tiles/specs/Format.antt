@@ -1,9 +1,9 @@
 -- The form of a tile store: a header, and the tiles of all pages by their indexes.
 use Rattle.std.specs.Prelude.{ℕ, ◌+◌, ◌*◌, ◌%◌, Bool, not, nat_lt, ◌==◌, ◌||◌, if◌then◌else◌, Option, Some, None, is_some, List, ◌++◌, length, take, drop, flat_map, codes, bytes_eq}
 use Rattle.std.specs.List.{range_with_len}
-use Rattle.vt_definitions.specs.Depths.{texel_length, word_bytes, word_at}
-use Rattle.vt_definitions.specs.Numbers.{number_from, number_bytes}
-use Rattle.vt_definitions.specs.Texels.{Source}
+use Rattle.vt_pages.specs.Depths.{texel_length, word_bytes, word_at}
+use Rattle.vt_pages.specs.Numbers.{number_from, number_bytes}
+use Rattle.vt_pages.specs.Texels.{Source}
 use Rattle.vt_pages.specs.Shape.{Shape, shape_of}
 use Rattle.vt_pages.specs.Pages.{pages_of, texel_page, tile_words, refusal_of}
 use Rattle.vt_tiles.specs.declared.error.StoreError.{StoreError}

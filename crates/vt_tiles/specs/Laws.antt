@@ -1,7 +1,7 @@
 -- The laws of stores: each opens and holds its source, its words are those of its depth, and a tile holds the words of its page.
 use Rattle.std.specs.Prelude.{◌≡◌, ℕ, ◌+◌, ◌*◌, ◌^◌, ◌%◌, ◌<◌, None, List, length}
-use Rattle.vt_definitions.specs.Depths.{IsDepth, AreBytes, word_at}
-use Rattle.vt_definitions.specs.Texels.{Source}
+use Rattle.vt_pages.specs.Depths.{IsDepth, AreBytes, word_at}
+use Rattle.vt_pages.specs.Texels.{Source}
 use Rattle.vt_pages.specs.Shape.{Shape}
 use Rattle.vt_pages.specs.Pages.{refusal_of, texel_page}
 use Rattle.vt_pages.specs.Laws.{IsInside}

@@ -1,9 +1,9 @@
-pub use Rattle.vt_definitions.specs.Depths
-pub use Rattle.vt_definitions.specs.Texels
 pub use Rattle.vt_outside.specs.Files
+pub use Rattle.vt_pages.specs.Depths
 pub use Rattle.vt_pages.specs.Laws as PagesLaws
 pub use Rattle.vt_pages.specs.Pages
 pub use Rattle.vt_pages.specs.Shape
+pub use Rattle.vt_pages.specs.Texels
 pub mod Format
 pub mod Laws
 pub mod StoreViews

@@ -1,6 +1,6 @@
 -- A store that was opened, as callers see it.
 use Rattle.std.specs.Prelude.{◌≡◌, ℕ, true, List, Option, Some, None, Result, Ok, Err}
-use Rattle.vt_definitions.specs.Depths.{IsDepth}
+use Rattle.vt_pages.specs.Depths.{IsDepth}
 use Rattle.vt_pages.specs.Shape.{Shape}
 use Rattle.vt_tiles.specs.Format.{store_flaw, has_magic, header_shape, store_depth}
 use Rattle.vt_tiles.specs.declared.error.StoreError.{StoreError}

@@ -1,8 +1,8 @@
 -- The lines of tiles that lie side by side in memory, in texels of so many bytes.
 use Rattle.std.specs.Prelude.{◌≡◌, ℕ, ◌+◌, ◌-◌, ◌*◌, ◌/◌, ◌%◌, ◌<◌, ◌≤◌, List, length, min, slice_index}
-use Rattle.vt_definitions.specs.Depths.{texel_length, word_bytes, bytes_from}
-use Rattle.vt_definitions.specs.Sides.{side}
-use Rattle.vt_definitions.specs.Texels.{Source}
+use Rattle.vt_pages.specs.Depths.{texel_length, word_bytes, bytes_from}
+use Rattle.vt_pages.specs.Sides.{side}
+use Rattle.vt_pages.specs.Texels.{Source}
 use Rattle.vt_pages.specs.Shape.{Shape}
 use Rattle.vt_pages.specs.Pages.{name_at, clamped_word}
 

@@ -1,16 +1,15 @@
 //! The header of a store.
 ghost use Rattle.std.specs.Prelude.{◌≡◌, ◌+◌, ◌*◌, ◌≤◌, false, None, Some, IfOk, IfErr, OnOk, MatchOption, length, min, take, bytes_eq};
-ghost use Rattle.vt_definitions.specs.Depths.{IsDepth};
-ghost use Rattle.vt_definitions.specs.Limits.{most_tile_side};
-ghost use Rattle.vt_definitions.specs.Numbers.{number_from};
+ghost use Rattle.vt_pages.specs.Depths.{IsDepth};
+ghost use Rattle.vt_pages.specs.Limits.{most_tile_side};
+ghost use Rattle.vt_pages.specs.Numbers.{number_from};
 ghost use Rattle.vt_pages.specs.Pages.{pages_of};
 ghost use Rattle.vt_tiles.specs.Format.{flaw_of, has_magic, header_shape, store_depth, tile_start, tile_length, store_length, header_length, header_bytes, magic};
 ghost use Rattle.vt_tiles.specs.StoreViews.{TellsDepth};
 ghost use Rattle.vt_tiles.specs.Refusals.{IsOutsideRefusal};
 
 use crate::StoreError;
-use vt_definitions::texel_length;
-use vt_pages::Geometry;
+use vt_pages::{Geometry, texel_length};
 
 // The four bytes that a store of one-byte samples begins with, and those of one of two-byte samples.
 const NARROW_MAGIC: [u8; 4] = *b"VTS1";

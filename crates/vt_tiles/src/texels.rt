@@ -1,6 +1,6 @@
 //! The runs of texels that the tiles of a store are made of.
 ghost use Rattle.std.specs.Prelude.{◌≡◌, ℕ, ◌+◌, ◌*◌, ◌<◌, ◌≤◌, length, slice_index};
-ghost use Rattle.vt_definitions.specs.Limits.{most_tiled_side};
+ghost use Rattle.vt_pages.specs.Limits.{most_tiled_side};
 ghost use Rattle.vt_pages.specs.Pages.{IsPage};
 ghost use Rattle.vt_tiles.specs.TileLines.{IsFilled, IsSpan};
 

@@ -1,14 +1,13 @@
 //! The top call.
 
-ghost use Rattle.vt_words.specs.Arguments.{texts};
+ghost use Rattle.vt_commands.specs.Arguments.{texts};
 ghost use Rattle.vt_commands.specs.Machines.{machines_of, kind_of};
 ghost use Rattle.vt_commands.specs.Runs.{run_of, IsRun};
 
 use std::alloc::Global;
 use std::sync::Wait;
 use std::thread::Threads;
-use vt_commands::{may_wait, run_at_once, run_waiting};
-use vt_machine::PassMachine;
+use vt_commands::{PassMachine, may_wait, run_at_once, run_waiting};
 use vt_outside::{Folder, Gate, Sink};
 
 /// Does what the words after the program's name say, and answers the status of the program: 0 where it is done, 1 for

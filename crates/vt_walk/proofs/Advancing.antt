@@ -13,9 +13,9 @@ use Rattle.vt_journal.specs.JournalText.{Pass, IsEventInChain}
 use Rattle.vt_feedback.specs.declared.Wanted.{Wanted}
 use Rattle.vt_feedback.specs.Wants.{IsWants}
 use Rattle.vt_evict.specs.PlanTypes.batches.Planned.{Planned}
-use Rattle.vt_evict.specs.Views.{RecencyView, pages_needed}
+use Rattle.vt_plan.specs.Views.{RecencyView, pages_needed}
 use Rattle.vt_evict.specs.Batches.{IsLawful, IsSettled, read_entries}
-use Rattle.vt_evict.specs.Plans.{plan_of}
+use Rattle.vt_plan.specs.Plans.{plan_of}
 use Rattle.vt_walk_decisions.specs.Drawings.{Drawing}
 use Rattle.vt_walk_decisions.specs.MachineTypes.machine.PassMachine.{Ghosts as MachineMeanings}
 use Rattle.vt_walk_decisions.specs.MachineTypes.crew.PassReport.{PassReport}

@@ -6,7 +6,7 @@ use Rattle.vt_pages.specs.Pages.{pages_of, root_of, IsWithinLimits}
 use Rattle.vt_pages.proofs.Lines.{reaches_root}
 use Rattle.vt_journal.specs.Changes.{Table, IsFree}
 use Rattle.vt_evict.specs.PlanTypes.batches.Planned.{Planned}
-use Rattle.vt_evict.specs.Views.{RecencyView, IsTable}
+use Rattle.vt_plan.specs.Views.{RecencyView, IsTable}
 use Rattle.vt_evict.specs.Batches.{IsLawful, IsLawfulEntry, IsVictim, IsFree as HasNoPage}
 use Rattle.vt_walk_decisions.specs.Outcomes.{IsEntryFor, IsBatchFor, IsVictimOf}
 use Rattle.vt_walk.specs.Agreements.{entry_of, Agrees}

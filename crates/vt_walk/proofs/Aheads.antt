@@ -2,7 +2,7 @@
 use Rattle.std.proofs.Common.{◌≡◌, ℕ, ◌-◌, inl, inr, List, ◌∷◌, Option, refl, sym, ◌∙◌, subst, arith}
 use Rattle.vt_outside.specs.Files.{Files, Asked}
 use Rattle.vt_evict.specs.PlanTypes.batches.Planned.{Planned}
-use Rattle.vt_evict.specs.Views.{RecencyView}
+use Rattle.vt_plan.specs.Views.{RecencyView}
 use Rattle.vt_walk_decisions.specs.Requests.{FileState, ArePartlyReadFor}
 use Rattle.vt_walk_decisions.specs.Machines.{MachineState}
 use Rattle.vt_walk_decisions.specs.declared.error.WalkError.TheVariants as walk_error

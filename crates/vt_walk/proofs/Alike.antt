@@ -10,7 +10,7 @@ use Rattle.vt_tiles.specs.Format.{tile_start, tile_length}
 use Rattle.vt_evict.specs.PlanTypes.batches.Planned.{Planned}
 use Rattle.vt_walk_decisions.specs.declared.error.WalkError.{WalkError}
 use Rattle.vt_walk_decisions.specs.declared.error.WalkError.TheVariants.{TooFewFrames, DoesNotFit, Failed, NoMemory}
-use Rattle.vt_words.specs.Names.{picture_name}
+use Rattle.vt_pictures.specs.Names.{picture_name}
 use Rattle.vt_walk.specs.DrawnBy.{PictureDrawn}
 use Rattle.vt_walk.specs.Runs.{WalkPass, plan_after, planned_in, lost_in}
 use Rattle.vt_walk.specs.Logs.{picture_line}

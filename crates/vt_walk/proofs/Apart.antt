@@ -6,8 +6,8 @@ use Rattle.std.proofs.lemmas.Slice.Eq.{bytes_eq-Decides}
 use Rattle.std.proofs.lemmas.Bool.{false≢true}
 use mathlib.Core.Path.{fun_ext}
 use Rattle.vt_outside.specs.Files.{Files, with_bytes, IsThere}
-use Rattle.vt_words.specs.Names.{picture_name, is_picture_name}
-use Rattle.vt_words.proofs.Named.{name_known}
+use Rattle.vt_pictures.specs.Names.{picture_name, is_picture_name}
+use Rattle.vt_pictures.proofs.Named.{name_known}
 use Rattle.vt_walk.specs.Walks.{WalkNames}
 use Rattle.vt_walk.specs.Folders.{IsApart}
 

@@ -21,7 +21,7 @@ use Rattle.vt_journal.specs.JournalText.{head_text, pinned_changes}
 use Rattle.vt_tiles.specs.Format.{tile_start, tile_length}
 use Rattle.vt_tiles.specs.StoreViews.{IsStoreIfTold}
 use Rattle.vt_evict.specs.PlanTypes.batches.Planned.{Planned}
-use Rattle.vt_evict.specs.Views.{RecencyView, first_view}
+use Rattle.vt_plan.specs.Views.{RecencyView, first_view}
 use Rattle.vt_walk_decisions.specs.Drawings.{Drawing}
 use Rattle.vt_walk_decisions.specs.Requests.{FileState, AllTell, counts_of}
 use Rattle.vt_walk_decisions.specs.Machines.{MachineState}

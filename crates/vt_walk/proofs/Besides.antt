@@ -10,11 +10,11 @@ use Rattle.vt_outside.specs.declared.answers.OutsideError.TheVariants.{Failed}
 use Rattle.vt_outside.specs.declared.outside.Folder.{Ghosts as FolderMeanings}
 use Rattle.vt_pages.specs.Pages.{IsWithinLimits}
 use Rattle.vt_ppm.specs.Picture.{picture_bytes}
-use Rattle.vt_words.specs.Names.{picture_name}
+use Rattle.vt_pictures.specs.Names.{picture_name}
 use Rattle.vt_camera.specs.Paths.{PathView}
 use Rattle.vt_journal.specs.Changes.{Table}
 use Rattle.vt_tiles.specs.StoreViews.{IsStore}
-use Rattle.vt_evict.specs.Views.{RecencyView}
+use Rattle.vt_plan.specs.Views.{RecencyView}
 use Rattle.vt_walk_decisions.specs.Scenes.{Scene}
 use Rattle.vt_walk_decisions.specs.Replays.{IsFull}
 use Rattle.vt_walk_decisions.specs.Jobs.{Job}

@@ -17,11 +17,11 @@ use Rattle.vt_feedback.specs.declared.Wanted.{Wanted}
 use Rattle.vt_feedback.specs.Wants.{pages_wanted, IsWants, is_before}
 use Rattle.vt_feedback.proofs.OrderedLists.{ordered_are_one}
 use Rattle.vt_evict.specs.PlanTypes.batches.Planned.{Planned}
-use Rattle.vt_evict.specs.Orders.{line_pages}
+use Rattle.vt_plan.specs.Orders.{line_pages}
 use Rattle.vt_evict.specs.PageLists.{is_in, each_once}
-use Rattle.vt_evict.specs.Views.{RecencyView, IsTable, is_pinned, is_held, frame_of, free_frames, pages_needed}
+use Rattle.vt_plan.specs.Views.{RecencyView, IsTable, is_pinned, is_held, frame_of, free_frames, pages_needed}
 use Rattle.vt_evict.specs.Missing.{is_mapped, missing_from}
-use Rattle.vt_evict.specs.Plans.{missing_pages, candidates, planned_at, planned_count, plan_of}
+use Rattle.vt_plan.specs.Plans.{missing_pages, candidates, planned_at, planned_count, plan_of}
 use Rattle.vt_evict.proofs.ListLemmas.{is_in-append, is_in-reverse, absent, range_once}
 use Rattle.vt_evict.proofs.PlanListLemmas.{nat_eq_true, is_in-filter}
 use Rattle.vt_evict.proofs.FreeLemmas.{is_in-range}

@@ -3,7 +3,7 @@ use Rattle.std.proofs.Common.{◌≡◌, ℕ, ◌-◌, ◌<◌, ◌≤◌, List,
 use Rattle.vt_pages.specs.Pages.{IsWithinLimits, pinned_of}
 use Rattle.vt_journal.specs.Changes.{Table}
 use Rattle.vt_tiles.specs.StoreViews.{IsStore}
-use Rattle.vt_evict.specs.Views.{RecencyView}
+use Rattle.vt_plan.specs.Views.{RecencyView}
 use Rattle.vt_walk_decisions.specs.Scenes.{Scene}
 use Rattle.vt_walk_decisions.specs.Drawings.{Drawing}
 use Rattle.vt_walk_decisions.specs.Machines.{MachineState}

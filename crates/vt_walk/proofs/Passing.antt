@@ -8,7 +8,7 @@ use Rattle.vt_outside.specs.declared.answers.OutsideError.TheVariants.{Failed, N
 use Rattle.vt_journal.specs.JournalText.{Pass, pass_text}
 use Rattle.vt_journal.specs.Passes.{pass_of as text_of}
 use Rattle.vt_evict.specs.PlanTypes.batches.Planned.{Planned}
-use Rattle.vt_evict.specs.Views.{RecencyView}
+use Rattle.vt_plan.specs.Views.{RecencyView}
 use Rattle.vt_walk_decisions.specs.Outcomes.{lost_count}
 use Rattle.vt_walk_decisions.specs.Requests.{FileState, AllTell, AreSameFiles, ArePartlyReadFor, counts_of}
 use Rattle.vt_walk_decisions.specs.Machines.{MachineState}

@@ -17,7 +17,7 @@ use Rattle.vt_journal.proofs.ByParts.{lawful_by_parts}
 use Rattle.vt_feedback.specs.declared.Wanted.{Wanted}
 use Rattle.vt_feedback.specs.Wants.{IsWants}
 use Rattle.vt_evict.specs.PlanTypes.batches.Planned.{Planned}
-use Rattle.vt_evict.specs.Views.{RecencyView, IsTable, first_view, touched}
+use Rattle.vt_plan.specs.Views.{RecencyView, IsTable, first_view, touched}
 use Rattle.vt_evict.specs.Batches.{IsLawful, IsFree, IsVictim}
 use Rattle.vt_evict.proofs.FirstLemmas.{range-more, first_table}
 use Rattle.vt_evict.proofs.TouchLemmas.{touched_table}

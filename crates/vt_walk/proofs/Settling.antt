@@ -17,7 +17,7 @@ use Rattle.vt_journal.specs.JournalText.{changes_of}
 use Rattle.vt_journal.proofs.Versions.{newest-more, entry-same, entry-other, same_page}
 use Rattle.vt_journal.proofs.EventLines.{changes_of-append}
 use Rattle.vt_evict.specs.PlanTypes.batches.Planned.{Planned}
-use Rattle.vt_evict.specs.Views.{RecencyView, IsTable}
+use Rattle.vt_plan.specs.Views.{RecencyView, IsTable}
 use Rattle.vt_evict.specs.Batches.{IsLawful, IsLawfulEntry, IsFree, IsVictim, IsSettled, IsSettledTable, read_entries, is_read, is_victim}
 use Rattle.vt_evict.specs.Kept.{applied, without_victim}
 use Rattle.vt_evict.proofs.PlanListLemmas.{nat_eq_true}

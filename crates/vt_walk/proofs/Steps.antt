@@ -10,7 +10,7 @@ use Rattle.vt_outside.specs.declared.place.Place.{Place}
 use Rattle.vt_outside.proofs.Changes.{told-bytes-appended}
 use Rattle.vt_journal.specs.JournalText.{pass_text}
 use Rattle.vt_pages.specs.Shape.{Shape}
-use Rattle.vt_words.specs.Names.{picture_name}
+use Rattle.vt_pictures.specs.Names.{picture_name}
 use Rattle.vt_evict.proofs.FirstLemmas.{range-more}
 use Rattle.vt_walk_decisions.specs.Outcomes.{lost_count}
 use Rattle.vt_walk_decisions.specs.Requests.{lost_entries}

@@ -11,9 +11,9 @@ use Rattle.vt_journal.specs.Changes.{newest}
 use Rattle.vt_journal.specs.JournalText.{changes_of}
 use Rattle.vt_feedback.specs.declared.Wanted.{Wanted}
 use Rattle.vt_feedback.specs.Wants.{pages_wanted, IsWants}
-use Rattle.vt_evict.specs.Orders.{line_pages}
+use Rattle.vt_plan.specs.Orders.{line_pages}
 use Rattle.vt_evict.specs.PageLists.{is_in}
-use Rattle.vt_evict.specs.Views.{RecencyView, first_view, pages_needed}
+use Rattle.vt_plan.specs.Views.{RecencyView, first_view, pages_needed}
 use Rattle.vt_evict.specs.Missing.{is_mapped}
 use Rattle.vt_evict.proofs.SettleLemmas.{self_eq, contains_head}
 use Rattle.vt_walk_decisions.specs.Passes.{MapsNeeded}

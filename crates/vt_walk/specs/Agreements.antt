@@ -1,7 +1,7 @@
 -- The entries of the recency are those of the journal's table.
 use Rattle.std.specs.Prelude.{◌≡◌, ℕ, ◌+◌, Option, None, Some, slice_index}
 use Rattle.vt_journal.specs.Changes.{Table}
-use Rattle.vt_evict.specs.Views.{RecencyView}
+use Rattle.vt_plan.specs.Views.{RecencyView}
 
 -- the entry of a page: 0 for unmapped, else its frame and 1
 abbrev pub entry_of : Option ℕ → ℕ

@@ -3,7 +3,7 @@ use Rattle.std.specs.Prelude.{◌≡◌, ℕ, ◌-◌, ◌<◌, ◌≤◌, Bool,
 use Rattle.vt_pages.specs.Shape.{Shape}
 use Rattle.vt_feedback.specs.declared.Wanted.{Wanted}
 use Rattle.vt_feedback.specs.Wants.{IsWants}
-use Rattle.vt_evict.specs.Views.{first_view, pages_needed}
+use Rattle.vt_plan.specs.Views.{first_view, pages_needed}
 use Rattle.vt_walk_decisions.specs.declared.mode.Mode.{Mode}
 
 -- what a walk is of: its mode, how the texture is cut into pages, the numbers of frames and of pinned pages, the most entries of a

@@ -1,7 +1,7 @@
 -- What a folder holds of a walk.
 use Rattle.std.specs.Prelude.{◌≡◌, ℕ, false, List, [], ◌∷◌, length}
 use Rattle.vt_outside.specs.Files.{Files, with_bytes}
-use Rattle.vt_words.specs.Names.{picture_name, is_picture_name}
+use Rattle.vt_pictures.specs.Names.{picture_name, is_picture_name}
 use Rattle.vt_walk.specs.Walks.{WalkNames}
 
 -- the folder with these pictures, the newest first in the list, each under its name

@@ -1,6 +1,6 @@
 -- A walk whose next pass was run, or drawn, before its text is appended.
 use Rattle.std.specs.Prelude.{◌≡◌, ℕ, ◌+◌, ◌<◌, List, length, Option}
-use Rattle.vt_evict.specs.Views.{RecencyView}
+use Rattle.vt_plan.specs.Views.{RecencyView}
 use Rattle.vt_walk_decisions.specs.MachineTypes.crew.PassReport.{PassReport}
 use Rattle.vt_walk_decisions.specs.Requests.{FileState}
 use Rattle.vt_walk_decisions.specs.Machines.{MachineState}

@@ -6,7 +6,7 @@ use Rattle.vt_outside.specs.declared.place.Place.{Place}
 use Rattle.vt_journal.specs.JournalText.{head_text, pass_text}
 use Rattle.vt_walk_decisions.specs.Outcomes.{lost_count}
 use Rattle.vt_walk_decisions.specs.Requests.{lost_entries}
-use Rattle.vt_words.specs.Names.{picture_name}
+use Rattle.vt_pictures.specs.Names.{picture_name}
 use Rattle.vt_walk.specs.DrawnBy.{PictureDrawn}
 use Rattle.vt_walk.specs.Runs.{WalkPass, IsStepOf, IsNextPass, IsFinished, IsWhole, plan_after, told_of}
 use Rattle.vt_walk.specs.Logs.{picture_line, walk_end_line}

@@ -1,8 +1,12 @@
-pub use Rattle.vt_evict.specs.Plans
-pub use Rattle.vt_evict.specs.Views
 pub use Rattle.vt_feedback.specs.Wants
 pub use Rattle.vt_feedback.specs.declared as FeedbackTypes
+pub use Rattle.vt_journal.specs.JournalText
+pub use Rattle.vt_plan.specs.Plans
+pub use Rattle.vt_plan.specs.Views
+pub use Rattle.vt_walk_decisions.specs.Drawings
+pub use Rattle.vt_walk_decisions.specs.MachineTypes
 pub use Rattle.vt_walk_decisions.specs.Nearest
+pub use Rattle.vt_walk_decisions.specs.Requests
 pub use Rattle.vt_walk_decisions.specs.declared as WalkDecisionsTypes
 pub mod Runs
 pub mod Fits

@@ -1,7 +1,7 @@
 -- What a walk prints: a line for each picture, and the last line.
 use Rattle.std.specs.Prelude.{ℕ, ◌+◌, ◌==◌, Bool, List, [], ◌∷◌, ◌++◌, length, sum_by, count_by, codes, flat_map}
 use Rattle.std.specs.List.{filter, range_with_len}
-use Rattle.vt_words.specs.TextNumbers.{number_spelling}
+use Rattle.vt_text.specs.Numbers.{number_spelling}
 use Rattle.vt_journal.specs.declared.changes.Event.{Event}
 use Rattle.vt_walk_decisions.specs.Tallies.{is_load, is_loss, is_eviction}
 use Rattle.vt_walk.specs.Fits.{WalkSetup}

@@ -4,9 +4,9 @@ use Rattle.vt_pages.specs.Shape.{Shape}
 use Rattle.vt_feedback.specs.declared.Wanted.{Wanted}
 use Rattle.vt_feedback.specs.Wants.{IsWants}
 use Rattle.vt_evict.specs.PlanTypes.batches.Planned.{Planned}
-use Rattle.vt_evict.specs.Views.{RecencyView, touched, pages_needed}
+use Rattle.vt_plan.specs.Views.{RecencyView, touched, pages_needed}
 use Rattle.vt_evict.specs.Batches.{IsSettled, read_entries}
-use Rattle.vt_evict.specs.Plans.{plan_of}
+use Rattle.vt_plan.specs.Plans.{plan_of}
 use Rattle.vt_walk_decisions.specs.declared.steps.Outlook.{Outlook}
 
 -- the pages are settled by the entries of a batch that were not lost, those wanted are the most recent ones, and the plan is for them

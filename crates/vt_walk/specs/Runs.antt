@@ -9,9 +9,9 @@ use Rattle.vt_journal.specs.JournalText.{Pass, Content, changes_of, pinned_chang
 use Rattle.vt_feedback.specs.declared.Wanted.{Wanted}
 use Rattle.vt_feedback.specs.Wants.{IsWants}
 use Rattle.vt_evict.specs.PlanTypes.batches.Planned.{Planned}
-use Rattle.vt_evict.specs.Views.{RecencyView, first_view, touched}
+use Rattle.vt_plan.specs.Views.{RecencyView, first_view, touched}
 use Rattle.vt_evict.specs.Batches.{IsSettled, read_entries}
-use Rattle.vt_evict.specs.Plans.{plan_of}
+use Rattle.vt_plan.specs.Plans.{plan_of}
 use Rattle.vt_walk_decisions.specs.MachineTypes.crew.PassReport.{PassReport}
 use Rattle.vt_walk_decisions.specs.Jobs.{Job}
 use Rattle.vt_walk_decisions.specs.Outcomes.{IsOutcome, lost_count}

@@ -4,7 +4,7 @@ use Rattle.vt_ppm.specs.Depths.{IsDepth}
 use Rattle.vt_pages.specs.Pages.{IsWithinLimits}
 use Rattle.vt_tiles.specs.StoreViews.{IsStoreIfTold}
 use Rattle.vt_journal.specs.Passes.{pass_of as text_of}
-use Rattle.vt_evict.specs.Views.{RecencyView, pages_needed}
+use Rattle.vt_plan.specs.Views.{RecencyView, pages_needed}
 use Rattle.vt_walk_decisions.specs.MachineTypes.crew.PassReport.{PassReport}
 use Rattle.vt_walk_decisions.specs.Jobs.{Job}
 use Rattle.vt_walk_decisions.specs.Requests.{FileState, AllTell, AreReadFor}

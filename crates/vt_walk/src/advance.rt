@@ -12,9 +12,9 @@ use crate::passes::{look_out, run_pass};
 use std::alloc::Global;
 use std::sync::Wait;
 use std::thread::Threads;
-use vt_draw::Shot;
 use vt_evict::Recency;
 use vt_outside::{Gate, NoMemory};
+use vt_pictures::Shot;
 use vt_walk_decisions::{Drawn, Next, PassMachine, PassReport, WalkInput, WalkStep, drawn_of};
 
 /// Draws the next pass of a walk, streams its batch, and plans what comes after it; or does nothing where all pictures are finished.

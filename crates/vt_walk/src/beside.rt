@@ -4,7 +4,7 @@ ghost use Rattle.std.specs.Prelude.{◌≡◌, ◌+◌, ◌<◌, ◌^◌, OnOk};
 ghost use Rattle.std.specs.List.{concat};
 ghost use Rattle.std.specs.Thread.{IsSync, IsSend};
 ghost use Rattle.vt_ppm.specs.Picture.{picture_bytes};
-ghost use Rattle.vt_words.specs.Names.{picture_name};
+ghost use Rattle.vt_pictures.specs.Names.{picture_name};
 ghost use Rattle.vt_walk_decisions.specs.Jobs.{job_of};
 ghost use Rattle.vt_walk_decisions.specs.Passes.{MayPrepare, IsJobFor, Ends};
 ghost use Rattle.vt_walk_decisions.specs.Judging.{MayGoOn, IsFollowed};
@@ -21,9 +21,9 @@ use crate::pictures::{make_picture, put_picture_line};
 use std::alloc::Global;
 use std::sync::Wait;
 use std::thread::{Threads, join_mut};
-use vt_draw::Shot;
 use vt_evict::{Batch, Recency};
 use vt_outside::{Folder, Gate, NoMemory, OutsideError, Sink};
+use vt_pictures::Shot;
 use vt_walk_decisions::{Next, PassMachine, PassReport, Passed, WalkError, WalkInput, step_after};
 
 /// Draws the next picture's first pass while the one that was finished is written, and puts the line of that. Its bytes are made in the

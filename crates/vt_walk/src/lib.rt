@@ -13,6 +13,6 @@ mod walk;
 mod walk_steps;
 
 pub use uncounted::walk_with;
-pub use vt_walk_decisions::{Mode, Names, PassMachine, Settings, WalkError};
+pub use vt_walk_decisions::{Crew, Mode, Names, PassMachine, Settings, WalkError};
 pub use walk::walk_counted;
 pub use walk_steps::Walked;

@@ -15,12 +15,12 @@ ghost use Rattle.vt_walk.specs.Outlooks.{IsOutlook};
 use std::alloc::Global;
 use std::sync::Wait;
 use std::thread::Threads;
-use vt_draw::Shot;
 use vt_evict::{Batch, Losses, Recency};
 use vt_feedback::Counts;
 use vt_journal::{PassText, add_pass};
 use vt_outside::{Folder, Gate, NoMemory, OutsideError};
 use vt_pages::Geometry;
+use vt_pictures::Shot;
 use vt_walk_decisions::{Outlook, PassMachine, PassReport};
 
 /// Prepares a pass for a batch and runs it.

@@ -5,9 +5,9 @@ ghost use Rattle.std.specs.List.{concat};
 ghost use Rattle.vt_ppm.specs.Depths.{IsDepth};
 ghost use Rattle.vt_outside.specs.Counts.{Rose};
 ghost use Rattle.vt_outside.specs.Files.{with_bytes, gained};
-ghost use Rattle.vt_words.specs.TextNumbers.{number_spelling};
+ghost use Rattle.vt_text.specs.Numbers.{number_spelling};
 ghost use Rattle.vt_ppm.specs.Picture.{picture_bytes};
-ghost use Rattle.vt_words.specs.Names.{four_digit_numbers, picture_name};
+ghost use Rattle.vt_pictures.specs.Names.{four_digit_numbers, picture_name};
 ghost use Rattle.vt_walk_decisions.specs.Replays.{IsFull};
 ghost use Rattle.vt_walk.specs.Logs.{end_line};
 ghost use Rattle.vt_walk.specs.Tallies.{numbers_line};
@@ -16,10 +16,10 @@ use crate::files::write_file;
 use std::alloc::Global;
 use vt_camera::Path;
 use vt_outside::{Folder, NoMemory, OutsideError, Sink};
+use vt_pictures::picture_name;
 use vt_ppm::encode_into;
-use vt_print::{LINE_ROOM, Line};
+use vt_text::{LINE_ROOM, Line};
 use vt_walk_decisions::{PassMachine, Tally};
-use vt_words::picture_name;
 
 /// Writes the picture of a machine's last pass under its name, by one creation and one append. After a refusal the
 /// name is as before, or holds a prefix of its bytes. These are made in the buffer.

@@ -12,30 +12,30 @@ use Rattle.vt_outside.specs.declared.answers.OutsideError.TheVariants as outside
 use Rattle.vt_pages.specs.Shape.{Shape}
 use Rattle.vt_camera.specs.Paths.{PathView}
 use Rattle.vt_tiles.specs.StoreViews.{IsStore, IsStoreIfTold}
-use Rattle.vt_machine.specs.JournalText.{Content as Journal}
-use Rattle.vt_command_base.specs.Effects.{FolderState, SinkState}
-use Rattle.vt_replay.specs.Expectations.{with_files, IsPart, FailsOnly, Puts}
-use Rattle.vt_command_base.proofs.Writing.{part_whole}
-use Rattle.vt_replay.specs.Flaws.{IsFirstRefused}
+use Rattle.vt_walk.specs.JournalText.{Content as Journal}
+use Rattle.vt_command_inputs.specs.Effects.{FolderState, SinkState}
+use Rattle.vt_bilinear.specs.Expectations.{with_files, IsPart, FailsOnly, Puts}
+use Rattle.vt_command_inputs.proofs.Writing.{part_whole}
+use Rattle.vt_bilinear.specs.Flaws.{IsFirstRefused}
 use Rattle.vt_tiles.specs.Places.{IsTilePlace}
-use Rattle.vt_replay.specs.Outcomes.{HoldsReplay, HoldsPart, Stopped, Leaves, IsClosed}
-use Rattle.vt_replay.specs.declared.error.ReplayError.{ReplayError}
-use Rattle.vt_replay.specs.declared.error.ReplayError.TheVariants as replay
-use Rattle.vt_words.specs.Replay.{ReplayText}
-use Rattle.vt_command_base.specs.Lines.{end_line}
-use Rattle.vt_command_base.specs.Inputs.{Input, StoreInput, PathInput, PagedStore, JournalInput, PathContent, PagedContent, TextContent, header_places}
-use Rattle.vt_command_base.specs.HeldInputs.{Holds}
-use Rattle.vt_command_base.specs.Causes.{AreHeld, IsAskedOrNot, AreAskedOrNot}
-use Rattle.vt_command_base.specs.Reads.{FileState, OpensStore, Closed, Took, Refused, IsCausedBy, IsAsked}
-use Rattle.vt_command_base.specs.Refusals.{IsRefusalOf, cause_of}
-use Rattle.vt_command_base.specs.CommandSpecs.{FlawedBeside, LeftBySpec, IsRefusalBy, EndsBy}
+use Rattle.vt_bilinear.specs.Outcomes.{HoldsReplay, HoldsPart, Stopped, Leaves, IsClosed}
+use Rattle.vt_bilinear.specs.ReplayTypes.error.ReplayError.{ReplayError}
+use Rattle.vt_bilinear.specs.ReplayTypes.error.ReplayError.TheVariants as replay
+use Rattle.vt_command_words.specs.Replay.{ReplayText}
+use Rattle.vt_command_inputs.specs.Lines.{end_line}
+use Rattle.vt_command_inputs.specs.Inputs.{Input, StoreInput, PathInput, PagedStore, JournalInput, PathContent, PagedContent, TextContent, header_places}
+use Rattle.vt_command_inputs.specs.HeldInputs.{Holds}
+use Rattle.vt_command_inputs.specs.Causes.{AreHeld, IsAskedOrNot, AreAskedOrNot}
+use Rattle.vt_command_inputs.specs.Reads.{FileState, OpensStore, Closed, Took, Refused, IsCausedBy, IsAsked}
+use Rattle.vt_command_inputs.specs.Refusals.{IsRefusalOf, cause_of}
+use Rattle.vt_command_inputs.specs.CommandSpecs.{FlawedBeside, LeftBySpec, IsRefusalBy, EndsBy}
 use Rattle.vt_walk_commands.specs.commands.Replay.{ReplayOf, under_by, contents_of, expected_journal, replay_inputs, replay_closes, replay_spec}
 use Rattle.vt_walk_commands.specs.commands.Replay.{RefusedBeside, IsAnswer, flaw_of_replay}
-use Rattle.vt_command_base.specs.declared.refusal.Refusal.{Refusal}
-use Rattle.vt_command_base.specs.declared.refusal.Refusal.TheVariants.{NoMemory, Usage, Fault, Flawed, TooFewFrames, DoesNotFit}
-use Rattle.vt_command_base.proofs.Ending.{refusal_at}
-use Rattle.vt_command_base.proofs.Opening.{closed_places}
-use Rattle.vt_command_base.proofs.TaskSpecs.{refused_by}
+use Rattle.vt_command_inputs.specs.declared.refusal.Refusal.{Refusal}
+use Rattle.vt_command_inputs.specs.declared.refusal.Refusal.TheVariants.{NoMemory, Usage, Fault, Flawed, TooFewFrames, DoesNotFit}
+use Rattle.vt_command_inputs.proofs.Ending.{refusal_at}
+use Rattle.vt_command_inputs.proofs.Opening.{closed_places}
+use Rattle.vt_command_inputs.proofs.TaskSpecs.{refused_by}
 
 paged_cause : (name : List ℕ) (refusal : Refusal) (before after : FolderState)
     → IsCausedBy (StoreInput name) (record { before = before; after = after }) refusal

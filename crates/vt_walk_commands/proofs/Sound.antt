@@ -1,17 +1,17 @@
 -- What is known of the specification of the commands that walk or replay.
 use Rattle.std.proofs.Common.{◌≡◌, List, [], ◌∷◌, Option, refl, sym, ap, subst, ◌∙◌, inl, arith}
 use Rattle.vt_outside.specs.Files.{Files, Asked}
-use Rattle.vt_command_base.specs.Effects.{CallEffect, FolderState, IsIdle}
-use Rattle.vt_command_base.specs.Inputs.{Input, Content}
-use Rattle.vt_command_base.specs.Causes.{AreAskedOrNot}
-use Rattle.vt_command_base.specs.CommandSpecs.{CommandSpec, Conflict, FlawedBeside, ManyTexels, FewFrames, LargePicture, conflict_status}
+use Rattle.vt_command_inputs.specs.Effects.{CallEffect, FolderState, IsIdle}
+use Rattle.vt_command_inputs.specs.Inputs.{Input, Content}
+use Rattle.vt_command_inputs.specs.Causes.{AreAskedOrNot}
+use Rattle.vt_command_inputs.specs.CommandSpecs.{CommandSpec, Conflict, FlawedBeside, ManyTexels, FewFrames, LargePicture, conflict_status}
 use Rattle.vt_walk_commands.specs.Machines.{MachineKind}
 use Rattle.vt_walk_commands.specs.commands.Walk.{WalkOf, ConflictsInWalk, StandsInWay, contents_of, walk_inputs, walk_spec}
 use Rattle.vt_walk_commands.specs.commands.Replay.{HasBadLine, replay_closes, replay_spec}
 use Rattle.vt_walk_commands.specs.commands.Trial.{ConflictsInTrial, trial_spec}
-use Rattle.vt_words.specs.Replay.{ReplayText}
-use Rattle.vt_words.specs.Walk.{WalkText}
-use Rattle.vt_words.specs.Trial.{TrialText}
+use Rattle.vt_command_words.specs.Replay.{ReplayText}
+use Rattle.vt_command_words.specs.Walk.{WalkText}
+use Rattle.vt_command_words.specs.Trial.{TrialText}
 
 -- whatever stands in the way of some contents has one status, and nothing is asked where all is as before
 pub record AreSound (spec : CommandSpec) : Type 0 where

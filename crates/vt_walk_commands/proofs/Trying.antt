@@ -14,26 +14,26 @@ use Rattle.vt_camera.specs.PathText.{IsPathText}
 use Rattle.vt_camera.proofs.PathFields.{path_unique}
 use Rattle.vt_mip.specs.Chains.{ChainView, chain_texel}
 use Rattle.vt_pages.specs.Shape.{Shape}
-use Rattle.vt_pages.specs.Pages.{refusal_of}
-use Rattle.vt_store.specs.ChainStores.{chain_store}
+use Rattle.vt_tiles.specs.Pages.{refusal_of}
+use Rattle.vt_store_commands.specs.ChainStores.{chain_store}
 use Rattle.vt_tiles.specs.StoreViews.{IsStore, IsStoreIfTold}
 use Rattle.vt_tiles.proofs.Stored.{stores_open}
-use Rattle.vt_machine.specs.Requests as Requests
+use Rattle.vt_walk.specs.Requests as Requests
 use Rattle.vt_walk.specs.declared.walk_steps.Walked.{Walked}
 use Rattle.vt_walk.specs.Walks.{AreSettings}
 use Rattle.vt_walk.specs.Counts.{HasCounts}
 use Rattle.vt_walk.specs.States.{AreOpen}
 use Rattle.vt_walk.proofs.Rounds.{each_fits}
 use Rattle.vt_walk.proofs.Wholeness.{fits_or_not}
-use Rattle.vt_words.specs.Trial.{TrialText}
-use Rattle.vt_command_base.specs.Effects.{FolderState, SinkState, SinkEffect, IsWithoutEffect}
-use Rattle.vt_replay.specs.Expectations.{FailsOnly, Puts}
-use Rattle.vt_command_base.specs.CommandSpecs.{Conflict, FlawedBeside, ManyTexels, FewFrames, LargePicture, IsRefusalBy, EndsBy}
-use Rattle.vt_command_base.specs.Refusals.{cause_of}
+use Rattle.vt_command_words.specs.Trial.{TrialText}
+use Rattle.vt_command_inputs.specs.Effects.{FolderState, SinkState, SinkEffect, IsWithoutEffect}
+use Rattle.vt_bilinear.specs.Expectations.{FailsOnly, Puts}
+use Rattle.vt_command_inputs.specs.CommandSpecs.{Conflict, FlawedBeside, ManyTexels, FewFrames, LargePicture, IsRefusalBy, EndsBy}
+use Rattle.vt_command_inputs.specs.Refusals.{cause_of}
 use Rattle.vt_walk_commands.specs.commands.Trial.{trial_shape, trial_path, trial_settings, trial_setup, trial_line, trial_spec, IsTrial, IsFirstUnfit, ConflictsInTrial, IsWalkRefusal, IsTrialRefusal, Compares, TriesOut, beside}
 use Rattle.vt_walk_commands.specs.declared.commands.trial.Tried.{Tried}
-use Rattle.vt_command_base.specs.declared.refusal.Refusal.{Refusal}
-use Rattle.vt_command_base.specs.declared.refusal.Refusal.TheVariants.{NoMemory, Usage, Fault, Flawed, TooFewFrames, DoesNotFit}
+use Rattle.vt_command_inputs.specs.declared.refusal.Refusal.{Refusal}
+use Rattle.vt_command_inputs.specs.declared.refusal.Refusal.TheVariants.{NoMemory, Usage, Fault, Flawed, TooFewFrames, DoesNotFit}
 
 -- a file that was just opened is one that is open
 pub fresh_open : (name : List ℕ) (asked : Option Asked) (file : Requests.FileState) → file.asked ≡ option_map (λ _. []) asked

@@ -11,9 +11,9 @@ use Rattle.vt_outside.specs.Files.{Files, Asked, bytes_at}
 use Rattle.vt_outside.specs.declared.place.Place.{Place}
 use Rattle.vt_pages.specs.Shape.{Shape}
 use Rattle.vt_camera.specs.Paths.{PathView}
-use Rattle.vt_command_base.specs.Effects.{FolderState, SinkState, CallEffect, IsWithoutEffect}
-use Rattle.vt_machine.specs.Requests.{counts_of}
-use Rattle.vt_machine.specs.Requests
+use Rattle.vt_command_inputs.specs.Effects.{FolderState, SinkState, CallEffect, IsWithoutEffect}
+use Rattle.vt_walk.specs.Requests.{counts_of}
+use Rattle.vt_walk.specs.Requests
 use Rattle.vt_pictures.specs.Scenes.{scene_of}
 use Rattle.vt_walk.specs.WalkDecisionsTypes.error.WalkError.{WalkError}
 use Rattle.vt_walk.specs.WalkDecisionsTypes.error.WalkError.TheVariants as walks
@@ -29,24 +29,24 @@ use Rattle.vt_walk.proofs.Closings.{AreSamePlaces, same_places, IsAlike}
 use Rattle.vt_walk.proofs.Alike.{ends_alike}
 use Rattle.vt_walk.proofs.Earlier.{ends_from}
 use Rattle.vt_walk.proofs.Wholeness.{fits_or_not}
-use Rattle.vt_words.specs.Names.{is_picture_name}
-use Rattle.vt_words.specs.Journals.{names_clash}
-use Rattle.vt_words.specs.Walk.{WalkText}
+use Rattle.vt_pictures.specs.Names.{is_picture_name}
+use Rattle.vt_command_words.specs.Journals.{names_clash}
+use Rattle.vt_command_words.specs.Walk.{WalkText}
 use Rattle.vt_walk_commands.specs.Machines.{MachineKind}
-use Rattle.vt_command_base.specs.Inputs.{PathInput, StoreInput, PathContent, StoreContent, header_places}
-use Rattle.vt_command_base.specs.HeldInputs.{Holds}
-use Rattle.vt_command_base.specs.Causes.{AreHeld, AsksSome}
-use Rattle.vt_command_base.specs.Reads.{FileState, OpensStore, Closed, Took, Refused}
-use Rattle.vt_command_base.specs.Tasks.{HasRisen}
-use Rattle.vt_command_base.specs.CommandSpecs.{Conflict, FlawedBeside, ManyTexels, FewFrames, LargePicture, IsRefusalBy, EndsBy}
+use Rattle.vt_command_inputs.specs.Inputs.{PathInput, StoreInput, PathContent, StoreContent, header_places}
+use Rattle.vt_command_inputs.specs.HeldInputs.{Holds}
+use Rattle.vt_command_inputs.specs.Causes.{AreHeld, AsksSome}
+use Rattle.vt_command_inputs.specs.Reads.{FileState, OpensStore, Closed, Took, Refused}
+use Rattle.vt_command_inputs.specs.Tasks.{HasRisen}
+use Rattle.vt_command_inputs.specs.CommandSpecs.{Conflict, FlawedBeside, ManyTexels, FewFrames, LargePicture, IsRefusalBy, EndsBy}
 use Rattle.vt_walk_commands.specs.commands.Walk.{WalkOf, contents_of, settings_of, walk_names, walk_given, walk_first, walk_last, HasWalked, HasLeft, frame_texels, walk_pinned, StandsInWay, walk_inputs, WalkFailed, WalkAsks, IsAnswer, walk_spec, refusal_of_walk}
-use Rattle.vt_command_base.specs.declared.refusal.Refusal.{Refusal}
-use Rattle.vt_command_base.specs.declared.refusal.Refusal.TheVariants.{Usage}
-use Rattle.vt_command_base.proofs.Ending.{refusal_at}
-use Rattle.vt_command_base.proofs.Opening.{store_there, header_took}
+use Rattle.vt_command_inputs.specs.declared.refusal.Refusal.{Refusal}
+use Rattle.vt_command_inputs.specs.declared.refusal.Refusal.TheVariants.{Usage}
+use Rattle.vt_command_inputs.proofs.Ending.{refusal_at}
+use Rattle.vt_command_inputs.proofs.Opening.{store_there, header_took}
 use Rattle.vt_walk_commands.proofs.Replaying.{asked_in, asked_or_not}
 use Rattle.vt_walk_commands.proofs.Sound.{same_of}
-use Rattle.vt_command_base.proofs.TaskSpecs.{refused_by}
+use Rattle.vt_command_inputs.proofs.TaskSpecs.{refused_by}
 
 -- what a call did, by its folders and its outputs
 abbrev pub over : FolderState → FolderState → SinkState → SinkState → CallEffect

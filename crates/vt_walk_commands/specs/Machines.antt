@@ -1,10 +1,10 @@
 -- By what kind of machine a command walks.
-use Rattle.vt_machine.specs.Drawings.{Drawing}
-use Rattle.vt_machine.specs.declared.machine.PassMachine.{Ghosts as MachineMeanings}
+use Rattle.vt_walk.specs.Drawings.{Drawing}
+use Rattle.vt_walk.specs.MachineTypes.machine.PassMachine.{Ghosts as MachineMeanings}
 use Rattle.vt_walk.specs.DrawnBy.{PictureDrawn, IsDrawnBySome}
-use Rattle.vt_words.specs.Walk.{WalkText}
-use Rattle.vt_words.specs.declared.machines.MachineChoice.{MachineChoice}
-use Rattle.vt_words.specs.declared.machines.MachineChoice.TheVariants.{Standard, SwappedTable, SharedRows, Bilinear}
+use Rattle.vt_command_words.specs.Walk.{WalkText}
+use Rattle.vt_command_words.specs.declared.machines.MachineChoice.{MachineChoice}
+use Rattle.vt_command_words.specs.declared.machines.MachineChoice.TheVariants.{Standard, SwappedTable, SharedRows, Bilinear}
 
 -- a kind of machines: how they draw, and the pictures that one of them has drawn
 pub record MachineKind : Type 1 where

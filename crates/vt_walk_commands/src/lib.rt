@@ -2,7 +2,13 @@
 #![tactic(auto)]
 
 mod commands;
+mod live;
 
 pub use commands::replay::replay;
 pub use commands::trial::trial;
 pub use commands::walk::walk;
+pub use live::{walk_live, walk_settled};
+pub use vt_store_commands::commands::{
+    StoreCommand, perform_store_command, read_store_command, usage_line,
+};
+pub use vt_walk::PassMachine;

@@ -2,7 +2,7 @@
 
 use crate::mode::Mode;
 use crate::settings::{Names, Settings};
-use vt_camera::Path;
+use vt_machine::Path;
 use vt_pages::Geometry;
 
 /// A walk: its texture, its path, its names, its settings with the number of pinned pages, and its mode.

@@ -7,8 +7,7 @@ use crate::error::WalkError;
 use crate::input::WalkInput;
 use crate::mode::Mode;
 use crate::steps::Passed;
-use vt_camera::Path;
-use vt_evict::Batch;
+use vt_machine::{Batch, Path};
 
 /// Whether a walk has fewer frames than pinned pages.
 pub fn has_too_few_frames(input: &WalkInput<'_>) -> bool

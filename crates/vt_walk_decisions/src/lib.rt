@@ -16,4 +16,4 @@ pub use mode::Mode;
 pub use settings::{Names, Settings};
 pub use steps::{Drawn, Next, Outlook, Passed, WalkStep, drawn_of, step_after};
 pub use tallies::Tally;
-pub use vt_machine::{PassMachine, PassReport};
+pub use vt_machine::{Crew, PassMachine, PassReport};

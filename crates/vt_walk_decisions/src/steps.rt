@@ -5,9 +5,8 @@ ghost use Rattle.vt_machine.specs.Outcomes.{lost_count};
 ghost use Rattle.vt_walk_decisions.specs.Reported.{IsReported, next_step};
 
 use crate::tallies::Tally;
-use vt_evict::{Batch, Losses};
 use vt_journal::PassText;
-use vt_machine::PassReport;
+use vt_machine::{Batch, Losses, PassReport};
 
 /// What a walk is to do next.
 #[derive(Drop)]

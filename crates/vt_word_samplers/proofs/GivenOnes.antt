@@ -4,10 +4,10 @@ use Rattle.std.specs.Prelude.{slice_set}
 use Rattle.std.proofs.lemmas.List.{length-set, get_or-set_same, get_or-set_other, get_or_default}
 use Rattle.std.proofs.lemmas.Bool.{cases_eq}
 use Rattle.std.proofs.lemmas.Option.{get_or_from_slice_get, slice_get-get_or, slice_get_within}
-use Rattle.vt_journal.specs.Shape.{Shape}
+use Rattle.vt_tiles.specs.Shape.{Shape}
 use Rattle.vt_sampler.specs.GraceTypes.views.WriterView.{WriterView}
-use Rattle.vt_noted.specs.Giving.{after_giving, new_pass}
-use Rattle.vt_noted.specs.WriterViews.{after_look, is_out}
+use Rattle.vt_streaming.specs.Giving.{after_giving, new_pass}
+use Rattle.vt_streaming.specs.WriterViews.{after_look, is_out}
 use Rattle.vt_sampler.specs.Values.{WordsValue, PassValue}
 use Rattle.vt_sampler.specs.Tokens.{IsPassOf}
 use Rattle.vt_word_samplers.specs.declared.samplers.WithPass.{WithPass}

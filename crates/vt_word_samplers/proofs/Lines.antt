@@ -6,8 +6,8 @@ use Rattle.std.proofs.lemmas.List.FromFn.{map-range_with_len_more}
 use Rattle.std.proofs.lemmas.List.Sums.{sum_by_push, sum_by-take-le}
 use Rattle.std.proofs.lemmas.Nat.{mod_below}
 use Rattle.std.proofs.lemmas.Option.{slice_get-get_or}
-use Rattle.vt_journal.specs.Shape.{Shape}
-use Rattle.vt_journal.specs.Pages.{pages_of}
+use Rattle.vt_tiles.specs.Shape.{Shape}
+use Rattle.vt_tiles.specs.Pages.{pages_of}
 use Rattle.vt_sampler.specs.Samplers.{IsOwn, version_at}
 use Rattle.vt_word_samplers.specs.WordSamplers.{WordSampler}
 use Rattle.vt_word_samplers.specs.DealtRows.{AreSamplersOf, version_by, line_of, lines_of, counted_together}

@@ -1,8 +1,8 @@
 -- The samplers to which the rows of a picture are dealt, the lines of these rows, and what they count.
 use Rattle.std.specs.Prelude.{◌≡◌, ℕ, ◌%◌, Option, None, Some, List, [], length, map, slice_get, slice_index, sum_by}
 use Rattle.std.specs.List.{range_with_len}
-use Rattle.vt_journal.specs.Shape.{Shape}
-use Rattle.vt_journal.specs.Pages.{pages_of}
+use Rattle.vt_tiles.specs.Shape.{Shape}
+use Rattle.vt_tiles.specs.Pages.{pages_of}
 use Rattle.vt_journal.specs.declared.changes.RowLine.{RowLine}
 use Rattle.vt_sampler.specs.Samplers.{SamplerView, row_at, version_at}
 use Rattle.vt_word_samplers.specs.WordSamplers.{WordSampler}

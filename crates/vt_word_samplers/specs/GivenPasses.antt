@@ -1,7 +1,7 @@
 -- Passes that are given to samplers, and taken back from them.
 use Rattle.std.specs.Prelude.{◌≡◌, ℕ, ◌<◌, Option, Some, None, List, [], ◌∷◌, length, map, slice_get, slice_index_or, IfSome, All}
 use Rattle.vt_sampler.specs.GraceTypes.views.WriterView.{WriterView}
-use Rattle.vt_noted.specs.Giving.{new_pass, after_return}
+use Rattle.vt_streaming.specs.Giving.{new_pass, after_return}
 use Rattle.vt_sampler.specs.Values.{WordsValue, PassValue}
 use Rattle.vt_sampler.specs.Tokens.{IsPassOf}
 use Rattle.vt_word_samplers.specs.declared.samplers.WithPass.{WithPass}

@@ -8,7 +8,7 @@ use Rattle.vt_sampler.specs.Held.{WasHeld}
 use Rattle.vt_sampler.specs.Samplers.{IsOwn, IsFor, own_rows, row_at, row_length, version_at}
 use Rattle.vt_sampler.specs.PicturesTypes.filters.Filter.{Ghosts as FilterMeanings}
 use Rattle.vt_sampler.specs.Evidence.{AreShown}
-use Rattle.vt_noted.specs.Scenes.{Scene}
+use Rattle.vt_streaming.specs.Scenes.{Scene}
 use Rattle.vt_word_samplers.specs.WordSamplers.{WordSampler}
 
 -- a sampler may draw a picture of a scene over words: it is made for it, and has a pass that was given at a version that maps the root

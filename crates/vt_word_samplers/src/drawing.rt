@@ -1,6 +1,6 @@
 //! What a sampler draws with its pass.
 
-ghost use Rattle.vt_noted.specs.Scenes.{scene_of};
+ghost use Rattle.vt_streaming.specs.Scenes.{scene_of};
 ghost use Rattle.vt_word_samplers.specs.SamplerTasks.{MayDraw, HasDrawn};
 
 use crate::samplers::WordSampler;

@@ -1,7 +1,7 @@
 //! Passes of the words that are given to samplers, and taken back from them.
 
 ghost use Rattle.std.specs.Prelude.{◌≡◌, ℕ, false, IfSome, length};
-ghost use Rattle.vt_noted.specs.WriterViews.{is_out};
+ghost use Rattle.vt_streaming.specs.WriterViews.{is_out};
 ghost use Rattle.vt_sampler.specs.Tokens.{IsPassOf};
 ghost use Rattle.vt_streaming.specs.Views.{IsStreamerOf};
 ghost use Rattle.vt_word_samplers.specs.GivenPasses.{HaveNewPasses, HasGiven, AreSameSamplers, ArePassesOf, after_pass, all_returned, without_passes};

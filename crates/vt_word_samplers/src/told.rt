@@ -1,14 +1,13 @@
 //! What a pass over shared words tells of its samplers.
 
 ghost use Rattle.std.specs.Prelude.{◌≡◌, ℕ, ◌^◌, ◌<◌, ◌≤◌, [], length, slice_index, slice_index_or};
-ghost use Rattle.vt_journal.specs.Shape.{Shape};
+ghost use Rattle.vt_tiles.specs.Shape.{Shape};
 ghost use Rattle.vt_word_samplers.specs.WordSamplers.{WordSampler as Task};
 ghost use Rattle.vt_word_samplers.specs.DealtRows.{AreSamplersOf, lines_of, counted_together};
 
 use crate::samplers::WordSampler;
-use vt_feedback::Counts;
 use vt_journal::{RowLine, RowLines};
-use vt_streaming::sampler_of;
+use vt_streaming::{Counts, sampler_of};
 
 /// Notes the lines of a picture's rows, each drawn by the sampler that it is dealt to, at the version of that sampler's row.
 pub fn note_lines(rows: &mut RowLines, samplers: &[WordSampler], count: u32, height: u32)

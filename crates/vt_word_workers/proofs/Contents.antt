@@ -11,15 +11,15 @@ use Rattle.vt_word_samplers.specs.JournalTypes.changes.Change.TheVariants.{Map, 
 use Rattle.vt_word_samplers.specs.JournalTypes.changes.Event.TheVariants.{Changed}
 use Rattle.vt_word_samplers.specs.JournalText.{changes_of}
 use Rattle.vt_word_samplers.proofs.EventLines.{changes_of-append}
-use Rattle.vt_tiles.specs.Format.{tile_length, tile_start}
-use Rattle.vt_plan.specs.declared.batches.Planned.{Planned}
+use Rattle.vt_load.specs.Format.{tile_length, tile_start}
+use Rattle.vt_loading.specs.PlanTypes.batches.Planned.{Planned}
 use Rattle.vt_queue.specs.declared.items.Loaded.{Loaded}
 use Rattle.vt_queue.specs.declared.items.Outcome.{Outcome}
 use Rattle.vt_queue.specs.declared.items.Outcome.TheVariants.{Read, Lost}
-use Rattle.vt_loaders.specs.Readings.{is_lost}
-use Rattle.vt_loaders.specs.Results.{IsGood}
-use Rattle.vt_requests.specs.Outcomes.{victim_events, group_if}
-use Rattle.vt_requests.specs.BatchRounds.{page_if, result_group, result_events, IsResultOf}
+use Rattle.vt_load.specs.Readings.{is_lost}
+use Rattle.vt_load.specs.Results.{IsGood}
+use Rattle.vt_loading.specs.Outcomes.{victim_events, group_if}
+use Rattle.vt_loading.specs.BatchRounds.{page_if, result_group, result_events, IsResultOf}
 use Rattle.vt_word_samplers.specs.Fills.{words_in}
 use Rattle.vt_word_samplers.specs.Made.{victim_contents, contents_if, result_contents, results_contents}
 use Rattle.vt_word_samplers.specs.Stored.{IsStored, AreStored}

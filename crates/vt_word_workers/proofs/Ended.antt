@@ -27,9 +27,9 @@ use Rattle.vt_word_samplers.specs.LookupNotes.{IsNotedIn}
 use Rattle.vt_word_samplers.specs.Samplers.{IsOwn, own_rows, row_at, row_length, version_at}
 use Rattle.vt_word_samplers.proofs.Sharing.{picture_few}
 use Rattle.vt_word_samplers.specs.Noted.{IsNotedBy, IsAmong}
-use Rattle.vt_loaders.specs.declared.queued.Queues.{Queues}
-use Rattle.vt_loaders.specs.QueuedLoaders.{QueuedView}
-use Rattle.vt_requests.specs.Jobs.{Job}
+use Rattle.vt_load.specs.declared.queued.Queues.{Queues}
+use Rattle.vt_load.specs.QueuedLoaders.{QueuedView}
+use Rattle.vt_loading.specs.Jobs.{Job}
 use Rattle.vt_word_samplers.specs.WordSamplers.{WordSampler}
 use Rattle.vt_word_workers.specs.declared.workers.WordStreamer.{WordStreamer}
 use Rattle.vt_word_samplers.specs.GivenPasses.{HasNewPass, ArePassesOf, all_returned, without_pass, without_passes}

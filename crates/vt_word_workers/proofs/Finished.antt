@@ -13,8 +13,8 @@ use Rattle.vt_word_samplers.specs.JournalTypes.changes.Change.{Change}
 use Rattle.vt_word_samplers.specs.JournalTypes.changes.Event.{Event}
 use Rattle.vt_word_samplers.specs.JournalTypes.changes.RowLine.{RowLine}
 use Rattle.vt_word_samplers.specs.JournalText.{changes_of}
-use Rattle.vt_tiles.specs.Format.{stored, tile_length}
-use Rattle.vt_tiles.specs.StoreViews.{StoreView, IsStoreIfTold}
+use Rattle.vt_load.specs.Format.{stored, tile_length}
+use Rattle.vt_load.specs.StoreViews.{StoreView, IsStoreIfTold}
 use Rattle.vt_word_samplers.specs.Replays.{IsFull, AreReplayed}
 use Rattle.vt_word_samplers.specs.PicturesTypes.filters.Filter.{Ghosts as FilterMeanings}
 use Rattle.vt_word_samplers.specs.FilterLaws.{IsUnder}
@@ -28,21 +28,21 @@ use Rattle.vt_queue.specs.declared.views.PassView.{PassView}
 use Rattle.vt_queue.specs.PassViews.{all_joined}
 use Rattle.vt_queue.specs.Queues.{view_of}
 use Rattle.vt_queue.specs.Steps.{IsAtStep}
-use Rattle.vt_loaders.specs.Loaders.{LoaderView}
-use Rattle.vt_loaders.specs.declared.queued.Queues.{Queues}
-use Rattle.vt_loaders.specs.QueuedLoaders.{QueuedView, asks_of, answers_of, stores_of, AreOf}
-use Rattle.vt_loaders.specs.Results.{IsGood}
-use Rattle.vt_loaders.proofs.Answering.{bytes_kept}
-use Rattle.vt_requests.specs.Jobs.{Job}
-use Rattle.vt_requests.specs.MachineTypes.crew.PassReport.{PassReport}
-use Rattle.vt_requests.specs.Outcomes.{IsOutcome}
-use Rattle.vt_requests.specs.RowOrders.{AreRowsInOrder}
-use Rattle.vt_requests.specs.Requests.{AreReadFor}
-use Rattle.vt_requests.specs.Machines.{files_of, told_by, AreStoresFor}
-use Rattle.vt_requests.specs.Drawings.{drawing_of}
-use Rattle.vt_requests.specs.Passes.{IsPictured}
-use Rattle.vt_requests.specs.BatchRounds.{result_events}
-use Rattle.vt_requests.specs.Sizes.{AreSized}
+use Rattle.vt_load.specs.Loaders.{LoaderView}
+use Rattle.vt_load.specs.declared.queued.Queues.{Queues}
+use Rattle.vt_load.specs.QueuedLoaders.{QueuedView, asks_of, answers_of, stores_of, AreOf}
+use Rattle.vt_load.specs.Results.{IsGood}
+use Rattle.vt_load.proofs.Answering.{bytes_kept}
+use Rattle.vt_loading.specs.Jobs.{Job}
+use Rattle.vt_loading.specs.MachineTypes.crew.PassReport.{PassReport}
+use Rattle.vt_loading.specs.Outcomes.{IsOutcome}
+use Rattle.vt_loading.specs.RowOrders.{AreRowsInOrder}
+use Rattle.vt_loading.specs.Requests.{AreReadFor}
+use Rattle.vt_loading.specs.Machines.{files_of, told_by, AreStoresFor}
+use Rattle.vt_loading.specs.Drawings.{drawing_of}
+use Rattle.vt_loading.specs.Passes.{IsPictured}
+use Rattle.vt_loading.specs.BatchRounds.{result_events}
+use Rattle.vt_loading.specs.Sizes.{AreSized}
 use Rattle.vt_word_samplers.specs.Made.{HasStreamed, results_contents}
 use Rattle.vt_word_samplers.specs.Stored.{AreStored}
 use Rattle.vt_word_samplers.proofs.Growing.{stored_grow}
@@ -50,7 +50,7 @@ use Rattle.vt_word_samplers.proofs.Replayed.{picture_replayed}
 use Rattle.vt_word_samplers.specs.WordSamplers.{WordSampler}
 use Rattle.vt_word_workers.specs.declared.workers.WordStreamer.{WordStreamer}
 use Rattle.vt_word_samplers.specs.GivenPasses.{all_returned, without_passes}
-use Rattle.vt_word_workers.specs.RoundKits.{RoundKitView, AreEmptied}
+use Rattle.vt_loading.specs.RoundKits.{RoundKitView, AreEmptied}
 use Rattle.vt_word_samplers.specs.DealtRows.{lines_of, counted_together}
 use Rattle.vt_word_workers.specs.Kits.{KitView, kit_row, kit_rows, kit_setup, kit_state, IsIdleKit}
 use Rattle.vt_word_workers.specs.HeldPasses.{AreHeldRows}
@@ -59,7 +59,7 @@ use Rattle.vt_word_workers.proofs.Returned.{journal_stays, contents_stay, have_r
 use Rattle.vt_word_workers.proofs.RowLines.{line_there, lines_in_order}
 use Rattle.vt_word_workers.proofs.Contents.{results_stored}
 use Rattle.vt_word_workers.proofs.Ended.{samplers_stay, counted, all_in, has_row, row_full, rows_rise, row_from, row_to, row_drawn, row_held, row_noted}
-use Rattle.vt_word_workers.proofs.Ending.{all_entries, all_good, all_sizes, outcome, read, asks_whole, answers_whole, no_asks, no_answers}
+use Rattle.vt_loading.proofs.Ending.{all_entries, all_good, all_sizes, outcome, read, asks_whole, answers_whole, no_asks, no_answers}
 use Rattle.vt_word_samplers.specs.Noted.{IsAmong, AreNotedRows}
 use Rattle.vt_word_samplers.specs.Shots.{shot_row}
 use Rattle.vt_word_samplers.specs.Evidence.{AreShown}

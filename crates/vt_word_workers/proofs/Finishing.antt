@@ -8,8 +8,8 @@ use Rattle.vt_outside.specs.declared.outside.File.{Ghosts as FileMeanings}
 use Rattle.vt_word_samplers.specs.JournalTypes.changes.RowLine.{RowLine}
 use Rattle.vt_word_samplers.specs.PicturesTypes.filters.Filter.{Ghosts as FilterMeanings}
 use Rattle.vt_word_samplers.specs.FilterLaws.{IsUnder}
-use Rattle.vt_tiles.specs.Format.{tile_length}
-use Rattle.vt_tiles.specs.StoreViews.{StoreView}
+use Rattle.vt_load.specs.Format.{tile_length}
+use Rattle.vt_load.specs.StoreViews.{StoreView}
 use Rattle.vt_word_samplers.specs.Values.{WordsValue}
 use Rattle.vt_word_samplers.specs.Views.{StreamerView, IsStreamerOf}
 use Rattle.vt_queue.specs.declared.items.Request.{Request}
@@ -18,16 +18,16 @@ use Rattle.vt_queue.specs.declared.views.PassView.{PassView}
 use Rattle.vt_queue.specs.PassViews.{all_joined}
 use Rattle.vt_queue.specs.Queues.{view_of}
 use Rattle.vt_queue.specs.Steps.{IsAtStep}
-use Rattle.vt_loaders.specs.declared.queued.Queues.{Queues}
-use Rattle.vt_loaders.specs.QueuedLoaders.{QueuedView, asks_of, answers_of, stores_of}
-use Rattle.vt_requests.specs.Jobs.{Job}
-use Rattle.vt_requests.proofs.Lent.{refilled}
-use Rattle.vt_requests.specs.MachineTypes.crew.PassReport.{PassReport}
-use Rattle.vt_requests.specs.Sizes.{AreSized}
+use Rattle.vt_load.specs.declared.queued.Queues.{Queues}
+use Rattle.vt_load.specs.QueuedLoaders.{QueuedView, asks_of, answers_of, stores_of}
+use Rattle.vt_loading.specs.Jobs.{Job}
+use Rattle.vt_loading.proofs.Lent.{refilled}
+use Rattle.vt_loading.specs.MachineTypes.crew.PassReport.{PassReport}
+use Rattle.vt_loading.specs.Sizes.{AreSized}
 use Rattle.vt_word_samplers.specs.WordSamplers.{WordSampler}
 use Rattle.vt_word_workers.specs.declared.workers.WordStreamer.{WordStreamer}
 use Rattle.vt_word_samplers.specs.GivenPasses.{all_returned, without_pass, without_passes}
-use Rattle.vt_word_workers.specs.RoundKits.{RoundKitView}
+use Rattle.vt_loading.specs.RoundKits.{RoundKitView}
 use Rattle.vt_word_samplers.specs.DealtRows.{lines_of, counted_together}
 use Rattle.vt_word_workers.specs.Kits.{KitView, IsIdleKit}
 use Rattle.vt_word_workers.specs.KitPasses.{Begun, MayFinish, KitRan, kit_before}

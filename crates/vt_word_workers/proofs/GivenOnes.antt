@@ -3,11 +3,11 @@ use Rattle.std.proofs.Common.{◌≡◌, List, sym, ap, ◌∙◌, subst}
 use Rattle.vt_outside.specs.declared.outside.File.{Ghosts as FileMeanings}
 use Rattle.vt_word_samplers.specs.Values.{WordsValue}
 use Rattle.vt_word_samplers.specs.Views.{StreamerView, IsStreamerOf}
-use Rattle.vt_plan.specs.declared.batches.Planned.{Planned}
+use Rattle.vt_loading.specs.PlanTypes.batches.Planned.{Planned}
 use Rattle.vt_queue.specs.declared.queue.QueuePass.{QueuePass}
 use Rattle.vt_queue.specs.declared.items.Loaded.{Loaded}
-use Rattle.vt_loaders.specs.declared.queued.Queues.{Queues}
-use Rattle.vt_word_samplers.specs.StreamingTypes.report.StreamReport.{StreamReport}
+use Rattle.vt_load.specs.declared.queued.Queues.{Queues}
+use Rattle.vt_loading.specs.RequestsTypes.report.StreamReport.{StreamReport}
 use Rattle.vt_word_samplers.specs.WordSamplers.{WordSampler}
 use Rattle.vt_word_samplers.specs.GivenPasses.{HaveNewPasses, HasGiven, AreSameSamplers}
 use Rattle.vt_word_samplers.proofs.GivenOnes.{samplers_same}

@@ -1,6 +1,6 @@
 -- The parts of a kit, one after another.
 use Rattle.std.proofs.Common.{◌≡◌, ℕ, zero, suc, ◌+◌, List, [], ◌∷◌, ◌++◌, length, get_or, Some, refl, sym, ap, ◌∙◌, subst, append_assoc, arith}
-use Rattle.std.specs.Prelude.{slice_get, ◌%◌, ◌≤◌, map, ◌<◌, true, None, IsSome}
+use Rattle.std.specs.Prelude.{slice_get, ◌%◌, map, ◌<◌, true, None, IsSome}
 use Rattle.std.proofs.lemmas.List.{length-append, append-nil}
 use Rattle.std.proofs.lemmas.List.FromFn.{map-range_with_len_more}
 use Rattle.std.specs.List.{range_with_len, concat}
@@ -9,7 +9,6 @@ use Rattle.vt_outside.specs.declared.outside.File.{Ghosts as FileMeanings}
 use Rattle.vt_pages.specs.Shape.{Shape}
 use Rattle.vt_pages.specs.Pages.{pages_of, root_of}
 use Rattle.vt_word_samplers.specs.Samplers.{SamplerView, IsFor, IsOwn}
-use Rattle.vt_tiles.specs.StoreViews.{StoreView, IsStoreIfTold}
 use Rattle.vt_word_samplers.specs.Changes.{newest}
 use Rattle.vt_word_samplers.specs.JournalLookups.{is_mapped}
 use Rattle.vt_word_samplers.specs.GraceTypes.sizes.Sizes.{Sizes}
@@ -17,15 +16,14 @@ use Rattle.vt_word_samplers.specs.GraceTypes.views.PassView.{PassView}
 use Rattle.vt_word_samplers.specs.Values.{WordsValue}
 use Rattle.vt_word_samplers.specs.Views.{StreamerView}
 use Rattle.vt_word_samplers.specs.LookupNotes.{Fits}
-use Rattle.vt_requests.specs.Machines.{told_by, AreStoresFor}
 use Rattle.vt_camera.specs.Paths.{PathView}
-use Rattle.vt_loaders.specs.declared.queued.Queues.{Queues}
+use Rattle.vt_load.specs.declared.queued.Queues.{Queues}
 use Rattle.vt_word_samplers.specs.WordSamplers.{WordSampler}
-use Rattle.vt_requests.specs.Jobs.{Job}
-use Rattle.vt_requests.specs.All.{AllReady}
+use Rattle.vt_loading.specs.Jobs.{Job}
+use Rattle.vt_loading.specs.All.{AllReady}
 use Rattle.vt_word_workers.specs.declared.workers.WordStreamer.{WordStreamer}
 use Rattle.vt_word_samplers.specs.SamplerTasks.{MayDraw}
-use Rattle.vt_requests.specs.Passes.{MapsRoot, IsJobFor}
+use Rattle.vt_loading.specs.Passes.{MapsRoot, IsJobFor}
 use Rattle.vt_word_samplers.specs.DealtRows.{IsSamplerOf, AreSamplersOf}
 use Rattle.vt_word_workers.specs.Kits.{KitView, kit_setup, kit_state, IsKit, IsFitKit, IsReadyKit}
 
@@ -117,16 +115,6 @@ concat_push (y ∷ xs) x = ap (λ t. y ++ t) (concat_push xs x) ∙ sym (append_
 -- the bytes of one row more
 pub joined_more : (f : ℕ → List ℕ) (y : ℕ) → concat (map f (range_with_len 0 (y + 1))) ≡ concat (map f (range_with_len 0 y)) ++ f y
 joined_more f y = let z : 0 + y ≡ y = omega arith in ap concat (map-range_with_len_more f 0 y y z) ∙ concat_push (map f (range_with_len 0 y)) (f y)
-
--- what the first of some stores knows of its bytes
-pub told_first : {F : Type 0} (g : FileMeanings F) (s : Shape) (d loaders : ℕ) (stores : List (StoreView F)) (store : StoreView F)
-    → AreStoresFor g s d loaders stores
-    → slice_get stores 0 ≡ Some store → IsStoreIfTold (g.bytes store.file) store.shape store.depth → IsStoreIfTold (told_by g stores) s d
-told_first g s d loaders [] store are is known = absurd (none-some store is)
-told_first g s d loaders (x ∷ xs) store are is known =
-    let same : x ≡ store = same_Some x store is in
-    let mine = subst (λ (y : StoreView _). IsStoreIfTold (g.bytes y.file) y.shape y.depth) (sym same) known in
-    subst (λ (z : Shape × ℕ). IsStoreIfTold (g.bytes x.file) z.0 z.1) (λ i. (are.shapes 0 x (omega arith) i, are.depths 0 x (omega arith) i)) mine
 
 -- a row is one of the rows of the sampler that it is dealt to
 pub own_turn : {F : Type 0} (g : FileMeanings F) (k : KitView F) (y : ℕ) (task : WordSampler) → IsKit g k → y < k.height

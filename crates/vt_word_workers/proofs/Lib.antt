@@ -1,3 +1,5 @@
+pub use Rattle.vt_loading.proofs.Lent as MachineLent
+pub use Rattle.vt_loading.proofs.StoreRooms
 pub use Rattle.vt_word_samplers.proofs.Growing
 pub use Rattle.vt_word_samplers.proofs.Replayed
 pub use Rattle.vt_word_samplers.proofs.Sharing
@@ -5,7 +7,6 @@ pub mod Kits
 pub mod Rooms
 pub mod Returned
 pub mod Contents
-pub mod Ending
 pub mod RowLines
 pub mod Ended
 pub mod Finished

@@ -14,7 +14,7 @@ use Rattle.vt_word_samplers.specs.Shots.{wants_in_rows}
 use Rattle.vt_word_samplers.specs.JournalTypes.changes.RowLine.{RowLine}
 use Rattle.vt_word_samplers.specs.Samplers.{own_rows}
 use Rattle.vt_word_samplers.proofs.Sharing.{rows_shared}
-use Rattle.vt_requests.specs.RowOrders.{AreRowsInOrder}
+use Rattle.vt_loading.specs.RowOrders.{AreRowsInOrder}
 use Rattle.vt_word_samplers.specs.WordSamplers.{WordSampler}
 use Rattle.vt_word_samplers.specs.DealtRows.{version_by, line_of, lines_of, counted_together}
 

@@ -6,7 +6,7 @@ use Rattle.vt_camera.specs.Paths.{PathView}
 use Rattle.vt_word_samplers.specs.Shots.{shot_row}
 use Rattle.vt_word_samplers.specs.PicturesTypes.filters.Filter.{Ghosts as FilterMeanings}
 use Rattle.vt_word_samplers.specs.Evidence.{AreShown}
-use Rattle.vt_tiles.specs.Format.{tile_length}
+use Rattle.vt_load.specs.Format.{tile_length}
 use Rattle.vt_word_samplers.specs.GraceTypes.views.WriterView.{WriterView}
 use Rattle.vt_word_samplers.specs.GraceTypes.views.Returned.{Returned}
 use Rattle.vt_word_samplers.specs.Values.{WordsValue}
@@ -14,22 +14,22 @@ use Rattle.vt_word_samplers.specs.Views.{StreamerView}
 use Rattle.vt_queue.specs.declared.queue.QueuePass.{QueuePass}
 use Rattle.vt_queue.specs.declared.items.Loaded.{Loaded}
 use Rattle.vt_queue.specs.Queues.{view_of}
-use Rattle.vt_loaders.specs.declared.queued.Queues.{Queues}
-use Rattle.vt_loaders.specs.QueuedLoaders.{QueuedView, AreOf, stores_of}
-use Rattle.vt_requests.specs.Jobs.{Job}
-use Rattle.vt_requests.specs.All.{AllDid}
-use Rattle.vt_requests.specs.MachineTypes.crew.PassReport.{PassReport}
-use Rattle.vt_requests.specs.Drawings.{drawing_of}
-use Rattle.vt_requests.specs.Machines.{told_by}
-use Rattle.vt_requests.specs.Passes.{IsJobFor, Ran}
-use Rattle.vt_requests.specs.BatchRounds.{Begun as Round, IsEndedRound}
-use Rattle.vt_requests.specs.Sizes.{AreSized}
+use Rattle.vt_load.specs.declared.queued.Queues.{Queues}
+use Rattle.vt_load.specs.QueuedLoaders.{QueuedView, AreOf, stores_of}
+use Rattle.vt_loading.specs.Jobs.{Job}
+use Rattle.vt_loading.specs.All.{AllDid}
+use Rattle.vt_loading.specs.MachineTypes.crew.PassReport.{PassReport}
+use Rattle.vt_loading.specs.Drawings.{drawing_of}
+use Rattle.vt_loading.specs.Machines.{told_by}
+use Rattle.vt_loading.specs.Passes.{IsJobFor, Ran}
+use Rattle.vt_loading.specs.BatchRounds.{Begun as Round, IsEndedRound}
+use Rattle.vt_loading.specs.Sizes.{AreSized}
 use Rattle.vt_word_samplers.specs.Noted.{IsNotedBy, AreNotedRows}
 use Rattle.vt_word_samplers.specs.WordSamplers.{WordSampler}
 use Rattle.vt_word_workers.specs.declared.workers.WordStreamer.{WordStreamer}
 use Rattle.vt_word_samplers.specs.SamplerTasks.{HasDrawn}
 use Rattle.vt_word_workers.specs.WordTasks.{HasFed}
-use Rattle.vt_word_workers.specs.RoundKits.{IsDealt}
+use Rattle.vt_loading.specs.RoundKits.{IsDealt}
 use Rattle.vt_word_samplers.specs.GivenPasses.{HaveNewPasses}
 use Rattle.vt_word_workers.specs.HeldPasses.{AreHeldRows}
 use Rattle.vt_word_workers.specs.Kits.{KitView, kit_setup, kit_state, IsFitKit, HasRoom, kit_rows}

@@ -1,5 +1,5 @@
 -- What a pass over shared words uses, and what holds of it.
-use Rattle.std.specs.Prelude.{◌≡◌, ℕ, ◌*◌, ◌%◌, ◌<◌, ◌≤◌, false, List, [], length, map, slice_get, slice_index_or, All}
+use Rattle.std.specs.Prelude.{◌≡◌, ℕ, ◌*◌, ◌%◌, ◌≤◌, false, List, [], length, map, slice_get, All}
 use Rattle.std.specs.List.{range_with_len}
 use Rattle.vt_definitions.specs.Depths.{IsDepth}
 use Rattle.vt_outside.specs.Lists.{ListView}
@@ -10,25 +10,26 @@ use Rattle.vt_camera.specs.Paths.{ArePictureSides}
 use Rattle.vt_word_samplers.specs.JournalTypes.changes.Change.{Change}
 use Rattle.vt_word_samplers.specs.JournalTypes.changes.RowLine.{RowLine}
 use Rattle.vt_word_samplers.specs.Changes.{newest}
-use Rattle.vt_tiles.specs.Format.{tile_length}
-use Rattle.vt_tiles.specs.StoreViews.{StoreView, IsStoreIfTold}
+use Rattle.vt_load.specs.Format.{tile_length}
+use Rattle.vt_load.specs.StoreViews.{StoreView, IsStoreIfTold}
 use Rattle.vt_word_samplers.specs.Values.{WordsValue}
 use Rattle.vt_word_samplers.specs.WriterViews.{is_out}
 use Rattle.vt_word_samplers.specs.Views.{StreamerView, IsStreamerOf}
-use Rattle.vt_plan.specs.declared.batches.Planned.{Planned}
-use Rattle.vt_requests.specs.MachineTypes.crew.Crew.{Crew}
-use Rattle.vt_requests.specs.Crews.{IsCrew}
-use Rattle.vt_requests.specs.Outcomes.{IsBatchFor}
-use Rattle.vt_requests.specs.Machines.{Setup, MachineState, file_state, files_of, told_by, AreStoresFor}
-use Rattle.vt_loaders.specs.declared.queued.Queues.{Queues}
-use Rattle.vt_requests.specs.Sizes.{AreSized}
-use Rattle.vt_word_samplers.specs.Reports.{IsBlank}
+use Rattle.vt_loading.specs.PlanTypes.batches.Planned.{Planned}
+use Rattle.vt_loading.specs.MachineTypes.crew.Crew.{Crew}
+use Rattle.vt_loading.specs.Crews.{IsCrew}
+use Rattle.vt_loading.specs.Outcomes.{IsBatchFor}
+use Rattle.vt_loading.specs.Machines.{Setup, MachineState, files_of, told_by, AreStoresFor}
+use Rattle.vt_load.specs.declared.queued.Queues.{Queues}
+use Rattle.vt_loading.specs.Sizes.{AreSized}
+use Rattle.vt_loading.specs.BlankReports.{IsBlank}
 use Rattle.vt_word_samplers.specs.Stored.{AreStored}
 use Rattle.vt_word_samplers.specs.WordSamplers.{WordSampler}
 use Rattle.vt_word_samplers.specs.DealtRows.{AreSamplersOf, row_by}
 use Rattle.vt_word_workers.specs.declared.workers.WordStreamer.{WordStreamer}
-use Rattle.vt_word_workers.specs.RoundKits.{RoundKitView, IsSetUp, IsAsked}
+use Rattle.vt_loading.specs.RoundKits.{RoundKitView, IsSetUp, IsAsked}
 use Rattle.vt_word_samplers.specs.GivenPasses.{HaveNewPasses}
+use Rattle.vt_loading.specs.SameStores.{AreSameStores}
 
 -- a kit: how the texture is cut into pages, how many bytes its samples have, the sides of the pictures, the crew; the samplers and the
 -- loaders' stores; how many texels the last picture needs of each page; the list that the next pass fills; and what its loaders work with
@@ -150,18 +151,6 @@ IsAskedKit g words q t k batch = IsKitFor g words t k batch (AreAllIn t.streamer
 abbrev pub IsReadyKit : {F : Type 0} → FileMeanings F → WordsValue → Queues → WordStreamer → KitView F → List Planned → Type 0
 IsReadyKit g words q t k batch = IsKitFor g words t k batch (HaveNewPasses words t.streamer.writer k.samplers)
     (IsAsked q k.round t.answers k.shape k.depth k.crew batch)
-
--- a store is the same but for its room to note reads
-pub record IsSameStore {F : Type 0} (g : FileMeanings F) (before after : StoreView F) : Type 0 where
-  pub shape : after.shape ≡ before.shape
-  pub depth : after.depth ≡ before.depth
-  pub bytes : g.bytes after.file ≡ g.bytes before.file
-  pub file : file_state g after.file ≡ file_state g before.file
-
--- the stores are the same but for their room to note reads
-pub record AreSameStores {F : Type 0} (g : FileMeanings F) (before after : List (StoreView F)) : Type 0 where
-  pub number : length after ≡ length before
-  pub each : (k : ℕ) (d : StoreView F) → k < length before → IsSameStore g (slice_index_or before k d) (slice_index_or after k d)
 
 -- a kit is the same but for the room of its lists and its stores, and for what its loaders work with
 pub record IsSameKit {F : Type 0} (g : FileMeanings F) (before after : KitView F) : Type 0 where

@@ -2,15 +2,15 @@
 use Rattle.std.specs.Prelude.{◌≡◌, ◌*◌, ◌^◌, ◌<◌, ◌≤◌, ◌++◌, List, length}
 use Rattle.vt_word_samplers.specs.Changes.{newest}
 use Rattle.vt_word_samplers.specs.Values.{WordsValue}
-use Rattle.vt_plan.specs.declared.batches.Planned.{Planned}
-use Rattle.vt_requests.specs.Outcomes.{IsBatchFor}
+use Rattle.vt_loading.specs.PlanTypes.batches.Planned.{Planned}
+use Rattle.vt_loading.specs.Outcomes.{IsBatchFor}
 use Rattle.vt_queue.specs.Queues.{view_of, splits_of, IsOf}
-use Rattle.vt_loaders.specs.declared.queued.Queues.{Queues}
-use Rattle.vt_requests.specs.BatchRounds.{result_events, AreLossesOf}
+use Rattle.vt_load.specs.declared.queued.Queues.{Queues}
+use Rattle.vt_loading.specs.BatchRounds.{result_events, AreLossesOf}
 use Rattle.vt_word_samplers.specs.Views.{IsStreamerOf}
 use Rattle.vt_word_samplers.specs.Made.{HasStreamed}
 use Rattle.vt_word_samplers.specs.Streams.{Streams}
-use Rattle.vt_word_samplers.specs.Reports.{IsBlank}
+use Rattle.vt_loading.specs.BlankReports.{IsBlank}
 use Rattle.vt_word_workers.specs.declared.workers.WordStreamer.{WordStreamer}
 
 -- the streamer may stream a batch: it is that of the words, its pass is one of the results, the batch is lawful for the newest version, and

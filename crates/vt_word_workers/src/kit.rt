@@ -6,28 +6,26 @@ ghost use Rattle.vt_definitions.specs.Limits.{most_samplers};
 ghost use Rattle.vt_definitions.specs.Depths.{IsDepth};
 ghost use Rattle.vt_pages.specs.Pages.{pages_of};
 ghost use Rattle.vt_word_samplers.specs.Changes.{newest};
-ghost use Rattle.vt_tiles.specs.Format.{tile_length};
+ghost use Rattle.vt_load.specs.Format.{tile_length};
 ghost use Rattle.vt_word_samplers.specs.Values.{WordsValue};
 ghost use Rattle.vt_queue.specs.declared.items.Loaded.{Loaded as Answer};
 ghost use Rattle.vt_queue.specs.declared.queue.QueuePass.{QueuePass as Token};
-ghost use Rattle.vt_plan.specs.declared.batches.Planned.{Planned as Entry};
-ghost use Rattle.vt_loaders.specs.declared.queued.Queues.{Queues as Both};
-ghost use Rattle.vt_loaders.specs.QueuedLoaders.{MayLoad};
-ghost use Rattle.vt_requests.specs.Jobs.{job_of};
-ghost use Rattle.vt_requests.specs.Crews.{IsCrew, last_start};
-ghost use Rattle.vt_requests.specs.Outcomes.{IsBatchFor};
-ghost use Rattle.vt_requests.specs.Machines.{AreStoresFor};
-ghost use Rattle.vt_requests.specs.Sizes.{AreSized};
-ghost use Rattle.vt_word_samplers.specs.StreamingTypes.report.StreamReport.{StreamReport as Told};
+ghost use Rattle.vt_loading.specs.PlanTypes.batches.Planned.{Planned as Entry};
+ghost use Rattle.vt_load.specs.declared.queued.Queues.{Queues as Both};
+ghost use Rattle.vt_load.specs.QueuedLoaders.{MayLoad};
+ghost use Rattle.vt_loading.specs.Jobs.{job_of};
+ghost use Rattle.vt_loading.specs.Crews.{IsCrew, last_start};
+ghost use Rattle.vt_loading.specs.Outcomes.{IsBatchFor};
+ghost use Rattle.vt_loading.specs.Machines.{AreStoresFor};
+ghost use Rattle.vt_loading.specs.Sizes.{AreSized};
+ghost use Rattle.vt_loading.specs.RequestsTypes.report.StreamReport.{StreamReport as Told};
 ghost use Rattle.vt_word_workers.specs.declared.workers.WordStreamer.{WordStreamer as Own};
-ghost use Rattle.vt_word_workers.specs.RoundKits.{IsSetUp, IsAsked, AreEmptied};
+ghost use Rattle.vt_loading.specs.RoundKits.{IsSetUp, IsAsked, AreEmptied};
 ghost use Rattle.vt_word_samplers.specs.GivenPasses.{HasGiven};
 ghost use Rattle.vt_word_samplers.specs.DealtRows.{AreSamplersOf, lines_of, counted_together};
 ghost use Rattle.vt_word_workers.specs.Kits.{KitView, IsKit, IsMadeFor, IsFitKit, IsIdleKit, AreAllIn, IsPreparedKit, IsAskedKit, IsReadyKit, HasRoom, IsSameKit, kit_row, kit_rows};
 ghost use Rattle.vt_word_workers.specs.KitPasses.{AreOut, Begun, MayFinish, KitRan, kit_before};
 
-use crate::room::{reserve_reads, with_room};
-use crate::round::{RoundKit, blank_report};
 use std::alloc::Global;
 use std::marker::Model;
 use std::mem;
@@ -35,13 +33,13 @@ use std::sync::Wait;
 use std::thread::Threads;
 use vt_camera::Path;
 use vt_definitions::texel_length;
-use vt_evict::Batch;
-use vt_loaders::{QueuedLoader, Queues};
+use vt_load::{QueuedLoader, Queues, Stores, tile_length};
+use vt_loading::{
+    Batch, Crew, PassReport, RoundKit, blank_report, reserve_reads, sampler_of, with_room,
+};
 use vt_outside::{File, Items, NoMemory};
 use vt_pages::Geometry;
 use vt_queue::{Loaded, QueuePass, Request};
-use vt_requests::{Crew, PassReport, sampler_of};
-use vt_tiles::{Stores, tile_length};
 use vt_word_samplers::{
     Counts, Filter, RowLines, Sampler, Shot, StreamReport, Streamer, WithPass, WordSampler, Words,
     count_together, give_passes, note_lines, return_passes,

@@ -5,10 +5,9 @@ use crate::workers::WordStreamer;
 use std::marker::PhantomData;
 use std::sync::Wait;
 use std::thread::Threads;
-use vt_loaders::{QueuedLoader, Queues};
+use vt_load::{QueuedLoader, Queues};
+use vt_loading::{Planned, Task};
 use vt_outside::{File, Gate};
-use vt_plan::Planned;
-use vt_requests::Task;
 use vt_word_samplers::{Filter, Shot, WordSampler, Words, draw_own};
 
 /// What the workers of a pass have in common where its caller holds the words.
@@ -23,7 +22,7 @@ pub struct LentShared<'a, P: Filter> {
 }
 
 impl<'a, F: File, P: Filter + Sync> Task<LentShared<'a, P>> for QueuedLoader<F> {
-    ghost use Rattle.vt_loaders.specs.QueuedLoaders.{MayLoad, HasLoaded};
+    ghost use Rattle.vt_load.specs.QueuedLoaders.{MayLoad, HasLoaded};
 
     ghost ready = { λ shared job loader. MayLoad F.File shared.queues.now loader };
 

@@ -4,8 +4,6 @@
 mod kit;
 mod lent;
 mod parts;
-mod room;
-mod round;
 mod shared;
 mod tasks;
 mod workers;
@@ -13,12 +11,14 @@ mod workers;
 pub use kit::WordKit;
 pub use lent::LentShared;
 pub use parts::new_parts;
-pub use room::{reserve_reads, with_room};
-pub use round::{RoundKit, blank_report, new_queues};
 pub use shared::WordShared;
 pub use tasks::stream_own;
-pub use vt_requests::Crew;
+pub use vt_load::{QueuedLoader, Queues};
+pub use vt_loading::{
+    Batch, Crew, PassMachine, PassReport, StreamKit, answered, with_room, work_together,
+};
 pub use vt_word_samplers::{
-    Filter, Nearest, StreamReport, Streamer, WithPass, WordSampler, give_passes, return_passes,
+    Counts, Filter, Nearest, Shot, StreamReport, Streamer, WithPass, WordSampler, give_passes,
+    return_passes,
 };
 pub use workers::WordStreamer;

@@ -4,14 +4,14 @@ ghost use Rattle.std.specs.Prelude.{◌≡◌, ◌≤◌, IfOk};
 ghost use Rattle.vt_definitions.specs.Limits.{most_samplers};
 ghost use Rattle.vt_word_samplers.specs.Sizes.{sizes_of};
 ghost use Rattle.vt_word_samplers.specs.WriterViews.{first_writer};
-ghost use Rattle.vt_requests.specs.Crews.{AreFrames};
+ghost use Rattle.vt_loading.specs.Crews.{AreFrames};
 ghost use Rattle.vt_word_samplers.specs.Views.{IsStreamerOf};
 
-use crate::round::{blank_report, new_queues};
 use crate::shared::WordShared;
 use crate::workers::WordStreamer;
 use std::alloc::Global;
 use std::marker::PhantomData;
+use vt_loading::{blank_report, new_queues};
 use vt_outside::NoMemory;
 use vt_pages::Geometry;
 use vt_queue::{QueuePass, Request};

@@ -3,10 +3,9 @@
 use std::marker::PhantomData;
 use std::sync::Wait;
 use std::thread::Threads;
-use vt_loaders::{QueuedLoader, Queues};
+use vt_load::{QueuedLoader, Queues};
+use vt_loading::{Planned, Task};
 use vt_outside::{File, Gate};
-use vt_plan::Planned;
-use vt_requests::Task;
 use vt_word_samplers::{Filter, Shot, Words};
 
 /// What the workers of a pass over shared words have in common.
@@ -21,7 +20,7 @@ pub struct WordShared<P: Filter> {
 }
 
 impl<F: File, P: Filter + Sync> Task<WordShared<P>> for QueuedLoader<F> {
-    ghost use Rattle.vt_loaders.specs.QueuedLoaders.{MayLoad, HasLoaded};
+    ghost use Rattle.vt_load.specs.QueuedLoaders.{MayLoad, HasLoaded};
 
     ghost ready = { λ shared job loader. MayLoad F.File shared.queues loader };
 

@@ -7,10 +7,9 @@ use crate::shared::WordShared;
 use crate::workers::WordStreamer;
 use std::sync::Wait;
 use std::thread::Threads;
-use vt_loaders::Queues;
+use vt_load::Queues;
+use vt_loading::{Planned, Task};
 use vt_outside::Gate;
-use vt_plan::Planned;
-use vt_requests::Task;
 use vt_word_samplers::{Filter, Shot, WordSampler, Words, draw_own, stream_batch};
 
 /// Lets the streamer stream the batch. It may wait.

@@ -3,8 +3,8 @@
 
 ghost use Rattle.std.specs.Prelude.{◌≡◌};
 ghost use Rattle.std.specs.IoError.{error_kind};
-ghost use Rattle.vt_command_base.specs.Refusals.{unread_refusal};
-ghost use Rattle.vt_words.specs.Arguments.{texts};
+ghost use Rattle.vt_command_inputs.specs.Refusals.{unread_refusal};
+ghost use Rattle.vt_command_words.specs.Arguments.{texts};
 ghost use Rattle.vt_top_call.specs.Runs.{run_of, IsRun};
 ghost use Rattle.vt_top_call.specs.Machines.{machines_of, kind_of};
 ghost use Rattle.vtex.specs.Here.{DrawsHere};
@@ -15,13 +15,12 @@ use std::process::ExitCode;
 use std::sync::Wait;
 use std::thread::Threads;
 use std::{env, io};
-use vt_bilinear::BlendMachine;
-use vt_command_base::Refusal;
+use vt_bilinear::{Bilinear, BlendMachine};
+use vt_command_inputs::Refusal;
 use vt_machine::PassMachine;
 use vt_outside::{Folder, Gate, OpenGate, RealFolder, RealSink, Sink};
 use vt_pass::WordMachine;
 use vt_pictures::{Filter, Nearest};
-use vt_plain_bilinear::Bilinear;
 use vt_steal::StealMachine;
 use vt_swap_machine::SwapMachine;
 pub use vt_top_call::run;

@@ -1,7 +1,7 @@
 -- What the calls from C do to a cache, by the number that they answer.
 use Rattle.std.specs.Prelude.{◌≡◌, ℕ, ◌<◌, ◌≤◌, Option, None, Some, List, length, map, IfSome, IfNone}
 use Rattle.std.specs.List.{All}
-use Rattle.vt_pages.specs.Limits.{most_frames}
+use Rattle.vt_definitions.specs.Limits.{most_frames}
 use Rattle.vt_pages.specs.Pages.{pages_of}
 use Rattle.vt_residency.specs.Changes.{HasChanges}
 use Rattle.vt_residency.specs.Levels.{IsLevelTable, HasLevelLength}

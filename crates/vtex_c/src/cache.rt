@@ -1,7 +1,7 @@
 //! A place for a residency, which C keeps in memory of its own.
 
 ghost use Rattle.std.specs.Prelude.{◌≡◌, ◌&&◌, nat_le, map, None, slice_index};
-ghost use Rattle.vt_pages.specs.Limits.{most_frames};
+ghost use Rattle.vt_definitions.specs.Limits.{most_frames};
 ghost use Rattle.vt_residency.specs.Tallies.{pixels_of, one_pixel};
 ghost use Rattle.vtex_c.specs.Caches.{IsOpened, IsPassedBy, AreCounts, AreListed, ArePages, IsListed, AreStates, IsSettledBy, AreChanges, IsLookedUp, IsTabled, IsTold, IsClosed};
 

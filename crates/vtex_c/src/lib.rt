@@ -2,6 +2,14 @@
 //! which are loaded next. The calls are described in `include/vtex.h`.
 #![tactic(auto)]
 
+mod cache;
+mod reader;
+mod settle;
+mod shape;
+mod shared;
+mod store;
+mod table;
+
 ghost use Rattle.std.specs.Prelude.{◌≡◌, ◌<◌, ◌≤◌, None, map, slice_index};
 ghost use Rattle.std.specs.Borrow.{full_share, sem};
 ghost use Rattle.std.specs.Mem.{type_size};
@@ -15,14 +23,6 @@ ghost use Rattle.vtex_c.specs.Caches.{IsOpened, IsPassedBy, AreCounts, AreListed
 ghost use Rattle.vtex_c.specs.Shapes.{shape_in, page_in, IsLevelTold, IsNamed, IsPageTold};
 ghost use Rattle.vtex_c.specs.Statuses.{IsRefused};
 ghost use Rattle.vtex_c.specs.Stores.{IsStoreOpened, IsTileFound};
-
-mod cache;
-mod reader;
-mod settle;
-mod shape;
-mod shared;
-mod store;
-mod table;
 
 use cache::Cache;
 use shape::{VtexName, VtexShape, geometry_of, is_inside, is_page, name_of, page_name};

@@ -1,16 +1,16 @@
 -- The command `gen`: a texture that is made from a number.
 use Rattle.std.specs.Prelude.{ℕ, List, [], ◌∷◌, Option, Some, codes, ◌+◌, ◌*◌, ◌%◌}
 use Rattle.clap.specs.Words.{Row, Rule, Text, first_of}
-use Rattle.vt_words.specs.Arguments.{word, given}
+use Rattle.vt_command_words.specs.Arguments.{word, given}
 use Rattle.vt_definitions.specs.Limits.{most_read_side}
-use Rattle.vt_words.specs.Numbers.{most_number, number_of, IsBetween}
+use Rattle.vt_command_words.specs.Numbers.{most_number, number_of, IsBetween}
 use Rattle.vt_store_commands.specs.declared.commands.generate.GenWords.{GenWords}
 use Rattle.std.specs.List.{flat_map, range_with_len}
 use Rattle.vt_ppm.specs.Picture.{picture_bytes}
-use Rattle.vt_files.specs.Effects.{FolderEffect, CallEffect, SinkState}
-use Rattle.vt_command_base.specs.Inputs.{Content}
-use Rattle.vt_files.specs.Expectations.{ExpectedFile, Expected}
-use Rattle.vt_command_base.specs.Tasks.{Task}
+use Rattle.vt_outside.specs.Effects.{FolderEffect, CallEffect, SinkState}
+use Rattle.vt_command_inputs.specs.Inputs.{Content}
+use Rattle.vt_outside.specs.Expectations.{ExpectedFile, Expected}
+use Rattle.vt_command_inputs.specs.Tasks.{Task}
 
 -- the words as three numbers and a name
 pub record GenText : Type 0 where

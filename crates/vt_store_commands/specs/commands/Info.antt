@@ -1,12 +1,12 @@
 -- The command `info`: what the header of a tile store says.
 use Rattle.std.specs.Prelude.{List, [], ◌∷◌, Option, Some, codes}
 use Rattle.clap.specs.Words.{Row, Rule, Text, first_of}
-use Rattle.vt_words.specs.Arguments.{word, given}
+use Rattle.vt_command_words.specs.Arguments.{word, given}
 use Rattle.vt_store_commands.specs.declared.commands.info.InfoWords.{InfoWords}
-use Rattle.vt_command_base.specs.Lines.{store_line}
-use Rattle.vt_command_base.specs.Inputs.{Content, StoreInput, StoreContent}
-use Rattle.vt_files.specs.Expectations.{Expected}
-use Rattle.vt_command_base.specs.Tasks.{Task}
+use Rattle.vt_command_inputs.specs.Lines.{store_line}
+use Rattle.vt_command_inputs.specs.Inputs.{Content, StoreInput, StoreContent}
+use Rattle.vt_outside.specs.Expectations.{Expected}
+use Rattle.vt_command_inputs.specs.Tasks.{Task}
 
 -- the word as a name
 pub record InfoText : Type 0 where

@@ -1,20 +1,20 @@
 -- The command `plain`: the plain picture of each camera of a path over a texture.
 use Rattle.std.specs.Prelude.{ℕ, List, [], ◌∷◌, Option, Some, None, Bool, ◌||◌, codes, if◌then◌else◌, length}
 use Rattle.clap.specs.Words.{Row, Rule, Text, first_of}
-use Rattle.vt_words.specs.Arguments.{word, option, given}
-use Rattle.vt_words.specs.Filters.{filter_option, filter_of}
-use Rattle.vt_words.specs.Names.{is_picture_name}
-use Rattle.vt_words.specs.Numbers.{side_of}
-use Rattle.vt_words.specs.declared.filters.Filtering.{Filtering}
+use Rattle.vt_command_words.specs.Arguments.{word, option, given}
+use Rattle.vt_command_words.specs.Filters.{filter_option, filter_of}
+use Rattle.vt_plain_bilinear.specs.Names.{is_picture_name}
+use Rattle.vt_command_words.specs.Numbers.{side_of}
+use Rattle.vt_command_words.specs.declared.filters.Filtering.{Filtering}
 use Rattle.vt_store_commands.specs.declared.commands.plain.PlainWords.{PlainWords}
 use Rattle.vt_ppm.specs.Image.{ImageView}
 use Rattle.vt_camera.specs.Paths.{PathView}
-use Rattle.vt_command_base.specs.Lines.{end_line}
+use Rattle.vt_command_inputs.specs.Lines.{end_line}
 use Rattle.vt_store_commands.specs.Pictures.{plain_file}
-use Rattle.vt_command_base.specs.Inputs.{Content, PathInput, TextureInput, PathContent, TextureContent}
-use Rattle.vt_files.specs.Expectations.{Expected}
-use Rattle.vt_files.specs.Pictures.{expected_pictures}
-use Rattle.vt_command_base.specs.Tasks.{Task}
+use Rattle.vt_command_inputs.specs.Inputs.{Content, PathInput, TextureInput, PathContent, TextureContent}
+use Rattle.vt_outside.specs.Expectations.{Expected}
+use Rattle.vt_plain_bilinear.specs.Pictures.{expected_pictures}
+use Rattle.vt_command_inputs.specs.Tasks.{Task}
 
 -- the words as names, a number and a filter
 pub record PlainText : Type 0 where

@@ -2,8 +2,8 @@
 use Rattle.std.specs.Prelude.{ℕ, List, [], ◌∷◌, Option, Some, None, codes, if◌then◌else◌, ◌≡◌}
 use Rattle.std.specs.Str.{bytes_eq}
 use Rattle.clap.specs.Words.{Row, Rule, Text, first_of}
-use Rattle.vt_words.specs.Arguments.{word, option, given}
-use Rattle.vt_words.specs.Numbers.{side_of}
+use Rattle.vt_command_words.specs.Arguments.{word, option, given}
+use Rattle.vt_command_words.specs.Numbers.{side_of}
 use Rattle.vt_store_commands.specs.declared.commands.tile.TileWords.{TileWords}
 use Rattle.vt_ppm.specs.Image.{ImageView}
 use Rattle.vt_ppm.specs.Strips.{texture_of}
@@ -13,14 +13,14 @@ use Rattle.vt_pages.specs.Pages.{refusal_of}
 use Rattle.vt_pages.specs.declared.PagesError.{PagesError}
 use Rattle.vt_pages.specs.declared.PagesError.TheVariants as pages_error
 use Rattle.vt_store.specs.ChainStores.{texture_store}
-use Rattle.vt_command_base.specs.Lines.{store_line}
-use Rattle.vt_command_base.specs.Inputs.{Content, TiledTexture, TextureContent, texture_shape}
-use Rattle.vt_files.specs.Expectations.{Expected}
-use Rattle.vt_command_base.specs.Tasks.{Task}
-use Rattle.vt_command_base.specs.declared.flaws.Flaw.{Flaw}
-use Rattle.vt_command_base.specs.declared.flaws.Flaw.TheVariants.{TooManyPages, BadSize}
-use Rattle.vt_command_base.specs.declared.refusal.Refusal.{Refusal}
-use Rattle.vt_command_base.specs.declared.refusal.Refusal.TheVariants.{Flawed}
+use Rattle.vt_command_inputs.specs.Lines.{store_line}
+use Rattle.vt_command_inputs.specs.Inputs.{Content, TiledTexture, TextureContent, texture_shape}
+use Rattle.vt_outside.specs.Expectations.{Expected}
+use Rattle.vt_command_inputs.specs.Tasks.{Task}
+use Rattle.vt_command_inputs.specs.declared.flaws.Flaw.{Flaw}
+use Rattle.vt_command_inputs.specs.declared.flaws.Flaw.TheVariants.{TooManyPages, BadSize}
+use Rattle.vt_command_inputs.specs.declared.refusal.Refusal.{Refusal}
+use Rattle.vt_command_inputs.specs.declared.refusal.Refusal.TheVariants.{Flawed}
 
 -- the words as names and a number
 pub record TileText : Type 0 where

@@ -2,15 +2,15 @@
 use Rattle.std.specs.Prelude.{List, [], ◌∷◌, Option, Some, None, codes, if◌then◌else◌, ℕ}
 use Rattle.std.specs.Str.{bytes_eq}
 use Rattle.clap.specs.Words.{Row, Rule, Text, first_of}
-use Rattle.vt_words.specs.Arguments.{word, given}
+use Rattle.vt_command_words.specs.Arguments.{word, given}
 use Rattle.vt_store_commands.specs.declared.commands.upgrade.UpgradeWords.{UpgradeWords}
 use Rattle.vt_pages.specs.Shape.{Shape}
 use Rattle.vt_tiles.specs.Format.{store_bytes, stored}
 use Rattle.vt_store.specs.Widening.{widened}
-use Rattle.vt_command_base.specs.Lines.{store_line}
-use Rattle.vt_command_base.specs.Inputs.{Content, NarrowStore, NarrowContent}
-use Rattle.vt_files.specs.Expectations.{Expected}
-use Rattle.vt_command_base.specs.Tasks.{Task}
+use Rattle.vt_command_inputs.specs.Lines.{store_line}
+use Rattle.vt_command_inputs.specs.Inputs.{Content, NarrowStore, NarrowContent}
+use Rattle.vt_outside.specs.Expectations.{Expected}
+use Rattle.vt_command_inputs.specs.Tasks.{Task}
 
 -- the words as names
 pub record UpgradeText : Type 0 where

@@ -2,22 +2,22 @@
 
 ghost use Rattle.std.specs.Prelude.{◌≡◌, true, IfSome, map, option_map, ◌+◌, ◌*◌, ◌%◌, ◌<◌, ◌≤◌, ◌++◌, ◌∷◌, [], length, take, IfOk, codes, decimal};
 ghost use Rattle.clap.specs.Words.{rows_of, found_of};
-ghost use Rattle.vt_words.specs.Arguments.{rule_for, are_simple};
+ghost use Rattle.vt_command_words.specs.Arguments.{rule_for, are_simple};
 ghost use Rattle.vt_store_commands.specs.commands.{GenCommand, shown_store, IsLawfulStore};
 ghost use Rattle.vt_store_commands.specs.commands.Gen.{gen_rules, gen_values, IsLawfulGen, shown_gen, made_texel, made_row, expected_file, gen_task, quiet};
-ghost use Rattle.vt_words.specs.Numbers.{most_number};
+ghost use Rattle.vt_command_words.specs.Numbers.{most_number};
 ghost use Rattle.vt_definitions.specs.Limits.{most_read_side};
-ghost use Rattle.vt_files.specs.Effects.{SinkState, folder_effect};
-ghost use Rattle.vt_files.specs.Expectations.{Writes};
-ghost use Rattle.vt_command_base.specs.CommandSpecs.{Ends};
+ghost use Rattle.vt_outside.specs.Effects.{SinkState, folder_effect};
+ghost use Rattle.vt_outside.specs.Expectations.{Writes};
+ghost use Rattle.vt_command_inputs.specs.CommandSpecs.{Ends};
 
 use crate::commands::StoreCommand;
 use clap::ArgMatches;
 use std::alloc::{AllocError, Global};
-use vt_command_base::Refusal;
+use vt_command_inputs::Refusal;
+use vt_command_words::arguments::{Argument, text};
+use vt_command_words::numbers::{MOST_NUMBER, number_of};
 use vt_outside::{Folder, OutsideError};
-use vt_words::arguments::{Argument, text};
-use vt_words::numbers::{MOST_NUMBER, number_of};
 
 // The largest side of such a texture.
 const MOST_SIDE: u32 = 8192;

@@ -2,17 +2,17 @@
 
 ghost use Rattle.std.specs.Prelude.{◌≡◌, true, IfSome, map, option_map};
 ghost use Rattle.clap.specs.Words.{rows_of, found_of};
-ghost use Rattle.vt_words.specs.Arguments.{rule_for, are_simple};
+ghost use Rattle.vt_command_words.specs.Arguments.{rule_for, are_simple};
 ghost use Rattle.vt_store_commands.specs.commands.{InfoCommand, shown_store, IsLawfulStore};
 ghost use Rattle.vt_store_commands.specs.commands.Info.{info_rules, info_values, shown_info, info_task};
-ghost use Rattle.vt_files.specs.Effects.{call_effect};
-ghost use Rattle.vt_command_base.specs.CommandSpecs.{Ends};
+ghost use Rattle.vt_outside.specs.Effects.{call_effect};
+ghost use Rattle.vt_command_inputs.specs.CommandSpecs.{Ends};
 
 use crate::commands::StoreCommand;
 use clap::ArgMatches;
-use vt_command_base::{Refusal, put_store_line, read_store_header};
+use vt_command_inputs::{Refusal, put_store_line, read_store_header};
+use vt_command_words::arguments::{Argument, text};
 use vt_outside::{Folder, Sink};
-use vt_words::arguments::{Argument, text};
 
 /// The word of `info`.
 #[derive(Clone, Copy)]

@@ -2,16 +2,16 @@
 
 ghost use Rattle.std.specs.Prelude.{◌≡◌, true, IfSome, map, option_map, length};
 ghost use Rattle.clap.specs.Words.{rows_of, found_of};
-ghost use Rattle.vt_words.specs.Arguments.{rule_for, are_simple};
+ghost use Rattle.vt_command_words.specs.Arguments.{rule_for, are_simple};
 ghost use Rattle.vt_store_commands.specs.commands.{PlainCommand, shown_store, IsLawfulStore};
 ghost use Rattle.vt_store_commands.specs.commands.Plain.{plain_rules, plain_clash, plain_values, shown_plain, plain_task};
 ghost use Rattle.vt_definitions.specs.Tiles.{IsTileSide};
-ghost use Rattle.vt_files.specs.Effects.{call_effect, folder_effect};
+ghost use Rattle.vt_outside.specs.Effects.{call_effect, folder_effect};
 ghost use Rattle.vt_store_commands.specs.PlainFiles.{AreWanted, file_with};
 ghost use Rattle.vt_store_commands.specs.SeenTextures.{IsEnough, seen_path};
-ghost use Rattle.vt_files.specs.Expectations.{Leaves, Writes};
-ghost use Rattle.vt_command_base.specs.CommandSpecs.{Ends};
-ghost use Rattle.vt_files.specs.Pictures.{expected_pictures};
+ghost use Rattle.vt_outside.specs.Expectations.{Leaves, Writes};
+ghost use Rattle.vt_command_inputs.specs.CommandSpecs.{Ends};
+ghost use Rattle.vt_plain_bilinear.specs.Pictures.{expected_pictures};
 
 use crate::commands::StoreCommand;
 use crate::plain_files::PlainPictures;
@@ -21,15 +21,16 @@ use clap::ArgMatches;
 use std::alloc::Global;
 use std::thread::Threads;
 use vt_camera::{Path, Surface};
-use vt_command_base::{Refusal, put_end, read_path};
+use vt_command_inputs::{Refusal, put_end, read_path};
+use vt_command_words::Filtering;
+use vt_command_words::arguments::{Argument, text};
+use vt_command_words::filters::filter_of;
+use vt_command_words::numbers::side_of;
 use vt_draw::Levels;
 use vt_mip::Chain;
 use vt_outside::{Folder, OutsideError, Sink};
+use vt_plain_bilinear::is_picture_name;
 use vt_ppm::begin_picture;
-use vt_words::arguments::{Argument, text};
-use vt_words::filters::filter_of;
-use vt_words::numbers::side_of;
-use vt_words::{Filtering, is_picture_name};
 
 /// The words of `plain`.
 #[derive(Clone, Copy)]

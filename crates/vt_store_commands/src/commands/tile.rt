@@ -2,7 +2,7 @@
 
 ghost use Rattle.std.specs.Prelude.{◌≡◌, true, IfSome, map, option_map, None, IfOk, IfErr};
 ghost use Rattle.clap.specs.Words.{rows_of, found_of};
-ghost use Rattle.vt_words.specs.Arguments.{rule_for, are_simple};
+ghost use Rattle.vt_command_words.specs.Arguments.{rule_for, are_simple};
 ghost use Rattle.vt_store_commands.specs.commands.{TileCommand, shown_store, IsLawfulStore};
 ghost use Rattle.vt_store_commands.specs.commands.Tile.{tile_rules, tile_values, shown_tile, tile_task, made_store, flaw_of_pages, IsTooMany};
 ghost use Rattle.vt_definitions.specs.Tiles.{IsTileSide};
@@ -10,24 +10,24 @@ ghost use Rattle.vt_ppm.specs.Strips.{IsTextureHeader};
 ghost use Rattle.vt_pages.specs.Shape.{shape_of};
 ghost use Rattle.vt_pages.specs.Pages.{refusal_of};
 ghost use Rattle.vt_store.specs.StripStores.{strip_shape};
-ghost use Rattle.vt_files.specs.Effects.{call_effect, folder_effect};
-ghost use Rattle.vt_command_base.specs.Inputs.{TiledTexture, AreStrips};
-ghost use Rattle.vt_command_base.specs.OpenWrites.{WritesMade};
-ghost use Rattle.vt_command_base.specs.Reads.{file_state, OpensTexture, Refused};
-ghost use Rattle.vt_command_base.specs.CommandSpecs.{Ends};
+ghost use Rattle.vt_outside.specs.Effects.{call_effect, folder_effect};
+ghost use Rattle.vt_command_inputs.specs.Inputs.{TiledTexture, AreStrips};
+ghost use Rattle.vt_command_inputs.specs.OpenWrites.{WritesMade};
+ghost use Rattle.vt_command_inputs.specs.Reads.{file_state, OpensTexture, Refused};
+ghost use Rattle.vt_command_inputs.specs.CommandSpecs.{Ends};
 
 use crate::commands::StoreCommand;
 use clap::ArgMatches;
 use std::alloc::Global;
 use std::thread::Threads;
-use vt_command_base::{Flaw, Refusal, open_texture, outside_error, put_store_line};
+use vt_command_inputs::{Flaw, Refusal, open_texture, outside_error, put_store_line};
+use vt_command_words::arguments::{Argument, text};
+use vt_command_words::numbers::side_of;
 use vt_mip::StripChain;
 use vt_outside::{Folder, OutsideError, Sink};
 use vt_pages::{Geometry, PagesError};
 use vt_ppm::{Header, StripReader};
 use vt_store::write_strips;
-use vt_words::arguments::{Argument, text};
-use vt_words::numbers::side_of;
 
 /// The words of `tile`.
 #[derive(Clone, Copy)]

@@ -2,24 +2,24 @@
 
 ghost use Rattle.std.specs.Prelude.{◌≡◌, true, IfSome, map, option_map, IfOk, IfErr};
 ghost use Rattle.clap.specs.Words.{rows_of, found_of};
-ghost use Rattle.vt_words.specs.Arguments.{rule_for, are_simple};
+ghost use Rattle.vt_command_words.specs.Arguments.{rule_for, are_simple};
 ghost use Rattle.vt_store_commands.specs.commands.{UpgradeCommand, shown_store, IsLawfulStore};
 ghost use Rattle.vt_store_commands.specs.commands.Upgrade.{upgrade_rules, upgrade_values, shown_upgrade, upgrade_task, upgraded_file};
-ghost use Rattle.vt_files.specs.Effects.{call_effect, folder_effect};
-ghost use Rattle.vt_command_base.specs.Inputs.{NarrowStore, ArePieces};
-ghost use Rattle.vt_command_base.specs.OpenWrites.{WritesMade};
-ghost use Rattle.vt_command_base.specs.Reads.{file_state, Refused, OpensStore};
-ghost use Rattle.vt_command_base.specs.CommandSpecs.{Ends};
+ghost use Rattle.vt_outside.specs.Effects.{call_effect, folder_effect};
+ghost use Rattle.vt_command_inputs.specs.Inputs.{NarrowStore, ArePieces};
+ghost use Rattle.vt_command_inputs.specs.OpenWrites.{WritesMade};
+ghost use Rattle.vt_command_inputs.specs.Reads.{file_state, Refused, OpensStore};
+ghost use Rattle.vt_command_inputs.specs.CommandSpecs.{Ends};
 
 use crate::commands::StoreCommand;
 use clap::ArgMatches;
 use std::alloc::Global;
 use std::thread::Threads;
-use vt_command_base::{Flaw, Refusal, open_store, outside_error, put_store_line};
+use vt_command_inputs::{Flaw, Refusal, open_store, outside_error, put_store_line};
+use vt_command_words::arguments::{Argument, text};
 use vt_outside::{Folder, OutsideError, Sink};
 use vt_store::widen_store;
 use vt_tiles::Store;
-use vt_words::arguments::{Argument, text};
 
 /// The words of `upgrade`.
 #[derive(Clone, Copy)]

@@ -6,7 +6,8 @@ use std::thread::Threads;
 use vt_mip::Chain;
 use vt_outside::{Folder, MemoryFile, MemoryFolder};
 use vt_pages::Geometry;
-use vt_store::{Store, StoreError, widen_store, write_store};
+use vt_store::{Store, widen_store, write_store};
+use vt_tiles::StoreError;
 
 /// The store of the texture of four columns and rows.
 pub const STORE_G4: [u8; 76] = [

@@ -8,7 +8,8 @@ use std::thread::Threads;
 use vt_mip::StripChain;
 use vt_outside::{Fail, Folder, MemoryFolder, Place};
 use vt_pages::Geometry;
-use vt_store::{StoreError, write_strips};
+use vt_store::write_strips;
+use vt_tiles::StoreError;
 
 // The store of the texture of five columns and three rows in samples of two bytes.
 const WIDE_STORE: [u8; 232] = [

@@ -3,9 +3,9 @@ use super::files::{FAULT, G4, PATH};
 use super::rows::Held::{All, Front};
 use super::rows::{Row, hold};
 use std::test::*;
+use vt_command_words::WordsError;
 use vt_outside::Fail;
 use vt_top_call::{Command, read_command};
-use vt_words::WordsError;
 
 // The texture of number 1 with sides of two texels.
 const MADE: &[u8] = b"P6\n2 2\n255\n\x01\x03\x07\x02\x03\x07\x01\x04\x07\x02\x04\x08";

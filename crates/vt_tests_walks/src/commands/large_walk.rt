@@ -1,6 +1,6 @@
 // A settled walk over a texture whose pages are far more than the frames.
 ghost use Rattle.std.specs.Prelude.{◌<◌};
-ghost use Rattle.vt_words.specs.Names.{four_digit_numbers};
+ghost use Rattle.vt_replay.specs.Names.{four_digit_numbers};
 
 use super::files::FAULT;
 use super::rows::Held::All;
@@ -11,7 +11,7 @@ use std::sync::Wait;
 use std::test::*;
 use std::thread::Threads;
 use vt_outside::{Fail, MemoryFolder};
-use vt_words::picture_name;
+use vt_pictures::picture_name;
 
 // The path of `trial 7`: 60 pictures along a texture of 2048 texels a side.
 static LONG_PATH: &[u8] =

@@ -18,7 +18,7 @@ use vt_outside::{Fail, Fails, Folder, MemoryFolder, MemorySink, NoMemory, OpenGa
 use vt_pages::Geometry;
 use vt_tiles::Store;
 use vt_walk::{Mode, Names, Settings, WalkError};
-use vt_word_walks::{walk_live, walk_settled};
+use vt_walk_commands::{walk_live, walk_settled};
 
 /// A walk, and what is to be there after it. In the folder opening 0 is the path's, opening 1 the store's, and the loaders' follow.
 #[derive(Clone, Copy)]

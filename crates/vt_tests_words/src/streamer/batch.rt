@@ -5,7 +5,7 @@ ghost use Rattle.std.specs.Bool.{MatchBool};
 ghost use Rattle.vt_grace.specs.WriterViews.{is_out};
 ghost use Rattle.vt_grace.specs.Tokens.{IsPassOf};
 ghost use Rattle.vt_queue.specs.Queues.{IsOf};
-ghost use Rattle.vt_streaming.specs.Reports.{IsBlank};
+ghost use Rattle.vt_requests.specs.BlankReports.{IsBlank};
 ghost use Rattle.vt_tests_words.specs.SmallStreams.{IsSmall};
 
 use crate::streamer::beside::read_page;
@@ -20,8 +20,9 @@ use vt_journal::{Change, Event, Journal};
 use vt_outside::{Bytes, Items, NoMemory, OpenGate};
 use vt_pages::Geometry;
 use vt_queue::{Loaded, Outcome, Queue, QueuePass, Request, ResultQueue};
+use vt_requests::StreamReport;
 use vt_streamer::Streamer;
-use vt_streaming::{StreamReport, stream_batch};
+use vt_streaming::stream_batch;
 
 // Tiles of four texels, of one-byte samples and of two-byte ones.
 const TILE: [u8; 12] = [1, 2, 3, 4, 5, 6, 7, 8, 9, 10, 11, 12];

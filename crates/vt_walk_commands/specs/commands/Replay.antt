@@ -5,30 +5,30 @@ use Rattle.vt_outside.specs.declared.answers.OutsideError.{OutsideError}
 use Rattle.vt_outside.specs.declared.answers.OutsideError.TheVariants as outside
 use Rattle.vt_pages.specs.Shape.{Shape}
 use Rattle.vt_camera.specs.Paths.{PathView}
-use Rattle.vt_machine.specs.JournalText.{Content as Journal}
+use Rattle.vt_walk.specs.JournalText.{Content as Journal}
 use Rattle.vt_pictures.specs.Replays.{pixel_under}
 use Rattle.vt_bilinear.specs.Shown.{blend_under}
-use Rattle.vt_command_base.specs.Effects.{FolderEffect, CallEffect}
-use Rattle.vt_replay.specs.Expectations.{Expected, with_files, IsPart}
-use Rattle.vt_replay.specs.Flaws.{IsFirstRefused}
-use Rattle.vt_replay.specs.Outcomes.{IsReplayable}
-use Rattle.vt_replay.specs.Trying.{Under}
-use Rattle.vt_replay.specs.Replayed.{expected_replay, pictures_of}
-use Rattle.vt_replay.specs.declared.error.ReplayError.{ReplayError}
-use Rattle.vt_replay.specs.declared.error.ReplayError.TheVariants as replay
-use Rattle.vt_words.specs.Replay.{ReplayText}
-use Rattle.vt_words.specs.declared.filters.Filtering.{Filtering}
-use Rattle.vt_words.specs.declared.filters.Filtering.TheVariants.{Nearest, Bilinear}
-use Rattle.vt_command_base.specs.Lines.{end_line}
-use Rattle.vt_command_base.specs.Inputs.{Input, Content, PathInput, PagedStore, JournalInput, PathContent, PagedContent, TextContent}
-use Rattle.vt_command_base.specs.Causes.{AsksSome}
-use Rattle.vt_command_base.specs.Reads.{FileState, Refused, Closed}
-use Rattle.vt_command_base.specs.Refusals.{IsRefusalOf}
-use Rattle.vt_command_base.specs.Tasks.{HasRisen}
-use Rattle.vt_command_base.specs.CommandSpecs.{CommandSpec, Conflict, FlawedBeside}
-use Rattle.vt_command_base.specs.declared.flaws.Flaw.{Flaw}
-use Rattle.vt_command_base.specs.declared.flaws.Flaw.TheVariants.{BadLine}
-use Rattle.vt_command_base.specs.declared.refusal.Refusal.{Refusal}
+use Rattle.vt_command_inputs.specs.Effects.{FolderEffect, CallEffect}
+use Rattle.vt_bilinear.specs.Expectations.{Expected, with_files, IsPart}
+use Rattle.vt_bilinear.specs.Flaws.{IsFirstRefused}
+use Rattle.vt_bilinear.specs.Outcomes.{IsReplayable}
+use Rattle.vt_bilinear.specs.Trying.{Under}
+use Rattle.vt_bilinear.specs.Replayed.{expected_replay, pictures_of}
+use Rattle.vt_bilinear.specs.ReplayTypes.error.ReplayError.{ReplayError}
+use Rattle.vt_bilinear.specs.ReplayTypes.error.ReplayError.TheVariants as replay
+use Rattle.vt_command_words.specs.Replay.{ReplayText}
+use Rattle.vt_command_words.specs.declared.filters.Filtering.{Filtering}
+use Rattle.vt_command_words.specs.declared.filters.Filtering.TheVariants.{Nearest, Bilinear}
+use Rattle.vt_command_inputs.specs.Lines.{end_line}
+use Rattle.vt_command_inputs.specs.Inputs.{Input, Content, PathInput, PagedStore, JournalInput, PathContent, PagedContent, TextContent}
+use Rattle.vt_command_inputs.specs.Causes.{AsksSome}
+use Rattle.vt_command_inputs.specs.Reads.{FileState, Refused, Closed}
+use Rattle.vt_command_inputs.specs.Refusals.{IsRefusalOf}
+use Rattle.vt_command_inputs.specs.Tasks.{HasRisen}
+use Rattle.vt_command_inputs.specs.CommandSpecs.{CommandSpec, Conflict, FlawedBeside}
+use Rattle.vt_command_inputs.specs.declared.flaws.Flaw.{Flaw}
+use Rattle.vt_command_inputs.specs.declared.flaws.Flaw.TheVariants.{BadLine}
+use Rattle.vt_command_inputs.specs.declared.refusal.Refusal.{Refusal}
 
 -- how a filter shows pixels under a page table
 abbrev pub under_by : Filtering → Under

@@ -3,7 +3,7 @@ use Rattle.std.specs.Prelude.{◌≡◌, ◌⊎◌, ℕ, ◌+◌, ◌-◌, ◌*�
 use Rattle.std.specs.List.{range_with_len, count_by}
 use Rattle.vt_outside.specs.Counts.{Rose}
 use Rattle.vt_outside.specs.Files.{Files, gained}
-use Rattle.vt_words.specs.TextNumbers.{number_spelling}
+use Rattle.vt_command_words.specs.TextNumbers.{number_spelling}
 use Rattle.vt_ppm.specs.Image.{ImageView}
 use Rattle.vt_ppm.specs.Picture.{picture_bytes}
 use Rattle.vt_mip.specs.Chains.{ChainView}
@@ -12,7 +12,7 @@ use Rattle.vt_camera.specs.PathText.{IsPathText}
 use Rattle.vt_pages.specs.Shape.{Shape, shape_of}
 use Rattle.vt_draw.specs.Plain.{plain_samples}
 use Rattle.vt_pictures.specs.Scenes.{scene_of}
-use Rattle.vt_machine.specs.Nearest.{nearest}
+use Rattle.vt_walk.specs.Nearest.{nearest}
 use Rattle.vt_walk.specs.WalkDecisionsTypes.settings.Settings.{Settings}
 use Rattle.vt_walk.specs.WalkDecisionsTypes.mode.Mode.TheVariants.{Settled}
 use Rattle.vt_walk.specs.WalkDecisionsTypes.error.WalkError.{WalkError}
@@ -21,15 +21,15 @@ use Rattle.vt_walk.specs.declared.walk_steps.Walked.{Walked}
 use Rattle.vt_walk.specs.Fits.{WalkSetup, Fits, DoesNotFit as IsTooLarge, room_of}
 use Rattle.vt_walk.specs.Walks.{walk_setup}
 use Rattle.vt_walk.specs.Counts.{HasCounts}
-use Rattle.vt_words.specs.Trial.{TrialText}
-use Rattle.vt_words.specs.Names.{picture_name}
-use Rattle.vt_command_base.specs.Effects.{FolderState, SinkEffect, CallEffect, IsWithoutEffect}
-use Rattle.vt_command_base.specs.Inputs.{Content}
-use Rattle.vt_command_base.specs.CommandSpecs.{CommandSpec, Conflict, FlawedBeside, ManyTexels, FewFrames, LargePicture}
+use Rattle.vt_command_words.specs.Trial.{TrialText}
+use Rattle.vt_pictures.specs.Names.{picture_name}
+use Rattle.vt_command_inputs.specs.Effects.{FolderState, SinkEffect, CallEffect, IsWithoutEffect}
+use Rattle.vt_command_inputs.specs.Inputs.{Content}
+use Rattle.vt_command_inputs.specs.CommandSpecs.{CommandSpec, Conflict, FlawedBeside, ManyTexels, FewFrames, LargePicture}
 use Rattle.vt_store_commands.specs.commands.Gen.{made_rows}
 use Rattle.vt_walk_commands.specs.declared.commands.trial.Tried.{Tried}
-use Rattle.vt_command_base.specs.declared.refusal.Refusal.{Refusal}
-use Rattle.vt_command_base.specs.declared.refusal.Refusal.TheVariants.{NoMemory, Usage, Fault, Flawed, TooFewFrames, DoesNotFit}
+use Rattle.vt_command_inputs.specs.declared.refusal.Refusal.{Refusal}
+use Rattle.vt_command_inputs.specs.declared.refusal.Refusal.TheVariants.{NoMemory, Usage, Fault, Flawed, TooFewFrames, DoesNotFit}
 
 -- the side of the texture of a trial
 abbrev pub trial_side : ℕ

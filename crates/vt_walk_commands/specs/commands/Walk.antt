@@ -4,10 +4,10 @@ use Rattle.vt_pages.specs.Limits.{most_frame_texels}
 use Rattle.vt_outside.specs.Counts.{Rose, RoseBy, added}
 use Rattle.vt_outside.specs.Files.{Files, Asked, bytes_at}
 use Rattle.vt_pages.specs.Shape.{Shape}
-use Rattle.vt_pages.specs.Pages.{pinned_of}
+use Rattle.vt_tiles.specs.Pages.{pinned_of}
 use Rattle.vt_camera.specs.Paths.{PathView}
 use Rattle.vt_pictures.specs.Scenes.{scene_of}
-use Rattle.vt_command_base.specs.Effects.{CallEffect}
+use Rattle.vt_command_inputs.specs.Effects.{CallEffect}
 use Rattle.vt_walk.specs.WalkDecisionsTypes.settings.Settings.{Settings}
 use Rattle.vt_walk.specs.WalkDecisionsTypes.mode.Mode.TheVariants.{Settled}
 use Rattle.vt_walk.specs.WalkDecisionsTypes.error.WalkError.{WalkError}
@@ -20,13 +20,13 @@ use Rattle.vt_walk.specs.Standing.{Finished}
 use Rattle.vt_walk.specs.Leaving.{Left}
 use Rattle.vt_walk.specs.Causes.{HasUnfit, HasLost, reads_lost}
 use Rattle.vt_walk.specs.Closing.{AreOtherNamesAsBefore}
-use Rattle.vt_words.specs.Walk.{WalkText}
+use Rattle.vt_command_words.specs.Walk.{WalkText}
 use Rattle.vt_walk_commands.specs.Machines.{MachineKind}
-use Rattle.vt_command_base.specs.Inputs.{Input, Content, PathInput, StoreInput, PathContent, StoreContent, header_places}
-use Rattle.vt_command_base.specs.Causes.{AreHeld, IsAskedOrNot, AsksSome}
-use Rattle.vt_command_base.specs.CommandSpecs.{CommandSpec, Conflict, FlawedBeside, ManyTexels, FewFrames, LargePicture}
-use Rattle.vt_command_base.specs.declared.refusal.Refusal.{Refusal}
-use Rattle.vt_command_base.specs.declared.refusal.Refusal.TheVariants.{NoMemory, Fault, TooFewFrames, DoesNotFit}
+use Rattle.vt_command_inputs.specs.Inputs.{Input, Content, PathInput, StoreInput, PathContent, StoreContent, header_places}
+use Rattle.vt_command_inputs.specs.Causes.{AreHeld, IsAskedOrNot, AsksSome}
+use Rattle.vt_command_inputs.specs.CommandSpecs.{CommandSpec, Conflict, FlawedBeside, ManyTexels, FewFrames, LargePicture}
+use Rattle.vt_command_inputs.specs.declared.refusal.Refusal.{Refusal}
+use Rattle.vt_command_inputs.specs.declared.refusal.Refusal.TheVariants.{NoMemory, Fault, TooFewFrames, DoesNotFit}
 
 -- what a walk is of: a path, and a store by its header
 pub record WalkOf : Type 0 where

@@ -2,25 +2,24 @@
 
 ghost use Rattle.std.specs.Prelude.{◌≡◌, ◌⊎◌, ℕ, length, IfOk, IfErr};
 ghost use Rattle.vt_outside.specs.Counts.{Rose, added};
-ghost use Rattle.vt_command_base.specs.Effects.{call_effect, folder_effect};
-ghost use Rattle.vt_words.specs.Replay.{shown_replay};
-ghost use Rattle.vt_replay.specs.Flaws.{IsFirstRefused};
-ghost use Rattle.vt_replay.specs.Outcomes.{Leaves, IsClosed};
-ghost use Rattle.vt_command_base.specs.Inputs.{JournalInput, TextContent};
-ghost use Rattle.vt_command_base.specs.Reads.{file_state, Took};
-ghost use Rattle.vt_command_base.specs.CommandSpecs.{EndsBy};
+ghost use Rattle.vt_command_inputs.specs.Effects.{call_effect, folder_effect};
+ghost use Rattle.vt_command_words.specs.Replay.{shown_replay};
+ghost use Rattle.vt_bilinear.specs.Flaws.{IsFirstRefused};
+ghost use Rattle.vt_bilinear.specs.Outcomes.{Leaves, IsClosed};
+ghost use Rattle.vt_command_inputs.specs.Inputs.{JournalInput, TextContent};
+ghost use Rattle.vt_command_inputs.specs.Reads.{file_state, Took};
+ghost use Rattle.vt_command_inputs.specs.CommandSpecs.{EndsBy};
 ghost use Rattle.vt_walk_commands.specs.commands.Replay.{under_by, replay_spec, RefusedBeside, IsAnswer, flaw_of_replay};
 
 use std::alloc::Global;
 use std::thread::Threads;
-use vt_bilinear::replay_blend;
+use vt_bilinear::{ReplayError, replay_blend, replay_by};
 use vt_camera::Path;
-use vt_command_base::{Flaw, Refusal, open_store, put_end, read_journal, read_path, refusal_of};
+use vt_command_inputs::{Flaw, Refusal, open_store, put_end, read_journal, read_path, refusal_of};
+use vt_command_words::{Filtering, ReplayWords};
 use vt_outside::{Folder, OutsideError, Sink};
 use vt_pictures::Nearest;
-use vt_replay::{ReplayError, replay_by};
 use vt_tiles::Store;
-use vt_words::{Filtering, ReplayWords};
 
 /// Reads the path, opens the store and reads the journal, writes each picture of the journal under its name, and puts
 /// the end line.

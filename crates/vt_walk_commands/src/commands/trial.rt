@@ -4,14 +4,14 @@ ghost use Rattle.std.specs.Prelude.{◌≡◌, ◌<◌, ◌≤◌, [], length, i
 ghost use Rattle.vt_outside.specs.Counts.{added};
 ghost use Rattle.vt_outside.specs.Files.{bytes_at};
 ghost use Rattle.vt_outside.specs.MemoryFolder.{files_of};
-ghost use Rattle.vt_words.specs.Numbers.{most_number};
-ghost use Rattle.vt_words.specs.Names.{four_digit_numbers};
-ghost use Rattle.vt_words.specs.Trial.{IsLawfulTrial, shown_trial};
+ghost use Rattle.vt_command_words.specs.Numbers.{most_number};
+ghost use Rattle.vt_pictures.specs.Names.{four_digit_numbers};
+ghost use Rattle.vt_command_words.specs.Trial.{IsLawfulTrial, shown_trial};
 ghost use Rattle.vt_camera.specs.PathText.{IsPathText};
 ghost use Rattle.vt_pages.specs.Shape.{shape_of};
-ghost use Rattle.vt_command_base.specs.Effects.{FolderState, sink_effect};
-ghost use Rattle.vt_replay.specs.Expectations.{Puts};
-ghost use Rattle.vt_command_base.specs.CommandSpecs.{EndsBy};
+ghost use Rattle.vt_command_inputs.specs.Effects.{FolderState, sink_effect};
+ghost use Rattle.vt_bilinear.specs.Expectations.{Puts};
+ghost use Rattle.vt_command_inputs.specs.CommandSpecs.{EndsBy};
 ghost use Rattle.vt_walk_commands.specs.commands.Trial.{
   trial_shape,
   trial_texture,
@@ -34,19 +34,19 @@ use std::sync::Wait;
 use std::thread::Threads;
 use vt_bilinear::WordMachine;
 use vt_camera::{Path, parse_path};
-use vt_command_base::{Refusal, add};
+use vt_command_inputs::{Refusal, add};
+use vt_command_words::TrialWords;
 use vt_draw::draw_plain;
-use vt_machine::Crew;
 use vt_mip::Chain;
 use vt_outside::{Fails, Folder, Gate, MemoryFolder, MemorySink, NoMemory, OutsideError, Sink};
 use vt_pages::Geometry;
+use vt_pictures::picture_name;
 use vt_ppm::{Image, encode};
-use vt_print::Line;
-use vt_store::write_store;
 use vt_store_commands::commands::generate::make_row;
+use vt_store_commands::write_store;
+use vt_text::Line;
 use vt_tiles::Store;
-use vt_walk::{Names, Settings, WalkError, Walked, walk_counted};
-use vt_words::{TrialWords, picture_name};
+use vt_walk::{Crew, Names, Settings, WalkError, Walked, walk_counted};
 
 // The side of the texture, and of a tile.
 const SIDE: u32 = 2048;

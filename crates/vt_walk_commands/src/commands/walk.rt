@@ -2,21 +2,20 @@
 
 ghost use Rattle.std.specs.Prelude.{◌≡◌, ◌<◌, ◌≤◌, ◌*◌, ◌↔◌, IsTrue};
 ghost use Rattle.vt_pages.specs.Limits.{most_frames, most_frame_texels};
-ghost use Rattle.vt_command_base.specs.Effects.{call_effect};
-ghost use Rattle.vt_words.specs.Walk.{shown_walk, IsLawfulWalk};
+ghost use Rattle.vt_command_inputs.specs.Effects.{call_effect};
+ghost use Rattle.vt_command_words.specs.Walk.{shown_walk, IsLawfulWalk};
 ghost use Rattle.vt_walk_commands.specs.Machines.{kind_of};
-ghost use Rattle.vt_command_base.specs.CommandSpecs.{EndsBy};
+ghost use Rattle.vt_command_inputs.specs.CommandSpecs.{EndsBy};
 ghost use Rattle.vt_walk_commands.specs.commands.Walk.{walk_spec, IsAnswer, refusal_of_walk};
 
 use std::alloc::Global;
 use std::sync::Wait;
 use std::thread::Threads;
-use vt_command_base::{Refusal, open_store, read_path};
-use vt_machine::{Crew, PassMachine};
+use vt_command_inputs::{Refusal, open_store, read_path};
+use vt_command_words::WalkWords;
 use vt_outside::{Folder, Gate, Sink};
 use vt_pages::Geometry;
-use vt_walk::{Names, Settings, WalkError, walk_with};
-use vt_words::WalkWords;
+use vt_walk::{Crew, Names, PassMachine, Settings, WalkError, walk_with};
 
 // How many texels the frames of a walk have together at most.
 const MOST_FRAME_TEXELS: u64 = 8_388_608;

@@ -1,6 +1,6 @@
-use Rattle.vt_words.specs.Walk.{shown_walk}
-use Rattle.vt_words.specs.declared.machines.MachineChoice.TheVariants.{Standard, SwappedTable, SharedRows, Bilinear}
-use Rattle.vt_command_base.specs.Effects.{call_effect}
+use Rattle.vt_command_words.specs.Walk.{shown_walk}
+use Rattle.vt_command_words.specs.declared.machines.MachineChoice.TheVariants.{Standard, SwappedTable, SharedRows, Bilinear}
+use Rattle.vt_command_inputs.specs.Effects.{call_effect}
 use Rattle.vt_walk_commands.specs.Machines.{machines_of, kind_of}
 use Rattle.vt_commands.proofs.Choosing.{by_choice}
 use Rattle.vt_commands.proofs.choice.walk_chosen.Goals as goal

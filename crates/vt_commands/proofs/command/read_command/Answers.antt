@@ -2,9 +2,9 @@ use Rattle.std.proofs.Common.{◌≡◌, ◌≤◌, List, [], ◌∷◌, length,
 use Rattle.std.specs.Prelude.{String, string_bytes}
 use Rattle.std.specs.declared.alloc.Global.{Global}
 use Rattle.clap.specs.Words.{Text}
-use Rattle.vt_words.specs.Arguments.{texts}
-use Rattle.vt_words.specs.Reading.{IsAnswer}
-use Rattle.vt_words.proofs.Asked.{same_asked, must_refuse}
+use Rattle.vt_command_words.specs.Arguments.{texts}
+use Rattle.vt_command_words.specs.Reading.{IsAnswer}
+use Rattle.vt_command_words.proofs.Asked.{same_asked, must_refuse}
 use Rattle.vt_commands.specs.Words.{named_text, command_text, shown, IsLawful}
 use Rattle.vt_commands.proofs.command.read_command.Goals as goal
 

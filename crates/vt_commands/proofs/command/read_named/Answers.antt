@@ -1,11 +1,11 @@
 use Rattle.std.proofs.Common.{◌≡◌, ◌∙◌, sym, ap, refl, List, ℕ, Bool, true, false}
 use Rattle.std.specs.Prelude.{option_map, if◌then◌else◌}
-use Rattle.vt_words.specs.Arguments.{texts}
-use Rattle.vt_words.specs.Commands.{walking_text, shown_walking, IsLawfulWalking}
-use Rattle.vt_words.specs.declared.command.WalkingCommand.{WalkingCommand}
-use Rattle.vt_words.specs.declared.command.WalkingCommand.TheVariants as walking
-use Rattle.vt_words.proofs.Asked.{same_asked, wrapped_ok, wrapped_err}
-use Rattle.vt_store_commands.specs.commands.{store_text, shown_store, IsLawfulStore}
+use Rattle.vt_command_words.specs.Arguments.{texts}
+use Rattle.vt_command_words.specs.Commands.{walking_text, shown_walking, IsLawfulWalking}
+use Rattle.vt_command_words.specs.declared.command.WalkingCommand.{WalkingCommand}
+use Rattle.vt_command_words.specs.declared.command.WalkingCommand.TheVariants as walking
+use Rattle.vt_command_words.proofs.Asked.{same_asked, wrapped_ok, wrapped_err}
+use Rattle.vt_walk_commands.specs.StoreCommandsCommands.{store_text, shown_store, IsLawfulStore}
 use Rattle.vt_commands.specs.Words.{OfStore, OfWalk, is_walking_name, named_text, command_of, shown, IsLawful}
 use Rattle.vt_commands.specs.declared.command.Command.TheVariants.{Store}
 use Rattle.vt_commands.proofs.command.read_named.Goals as goal

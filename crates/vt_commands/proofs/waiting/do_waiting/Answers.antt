@@ -1,8 +1,8 @@
 use Rattle.std.proofs.Common.{Err, ap, refl}
 use Rattle.std.proofs.lemmas.Result.{err_from_is_err_and}
-use Rattle.vt_words.specs.Arguments.{texts}
+use Rattle.vt_command_words.specs.Arguments.{texts}
 use Rattle.vt_commands.specs.Words.{shown}
-use Rattle.vt_command_base.specs.Effects.{call_effect}
+use Rattle.vt_command_inputs.specs.Effects.{call_effect}
 use Rattle.vt_walk_commands.specs.Machines.{machines_of, kind_of}
 use Rattle.vt_commands.proofs.Clauses.{runs_unread, runs_command}
 use Rattle.vt_commands.proofs.Waits.{is_waiting}

@@ -1,4 +1,4 @@
-use Rattle.vt_command_base.specs.Effects.{folder_state}
+use Rattle.vt_command_inputs.specs.Effects.{folder_state}
 use Rattle.vt_commands.proofs.waiting.perform_waiting.Goals as goal
 
 pub returns-in-Walk : goal.returns-in-Walk

@@ -1,7 +1,7 @@
 use Rattle.std.proofs.Common.{ℕ, List, subst}
-use Rattle.vt_words.specs.Arguments.{texts}
-use Rattle.vt_command_base.specs.Effects.{sink_effect}
-use Rattle.vt_command_base.specs.Refusals.{EndTold}
+use Rattle.vt_command_words.specs.Arguments.{texts}
+use Rattle.vt_command_inputs.specs.Effects.{sink_effect}
+use Rattle.vt_command_inputs.specs.Refusals.{EndTold}
 use Rattle.vt_walk_commands.specs.Machines.{machines_of, kind_of}
 use Rattle.vt_commands.specs.Runs.{run_of}
 use Rattle.vt_commands.proofs.Clauses.{is_run}

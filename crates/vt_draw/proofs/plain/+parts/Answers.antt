@@ -1,5 +1,5 @@
 use Rattle.std.proofs.Common.{◌≡◌, ℕ, ◌+◌, ◌-◌, ◌*◌, length, ap, ap₂, ◌∙◌, arith}
-use Rattle.vt_definitions.specs.Depths.{texel_length}
+use Rattle.vt_pages.specs.Depths.{texel_length}
 use Rattle.vt_draw.specs.Views.{rows_shown}
 use Rattle.vt_draw.proofs.PartsDrawn.{both_drawn, upper_room, lower_room}
 use Rattle.vt_draw.proofs.plain.+parts.Goals as goal

@@ -1,7 +1,7 @@
 use Rattle.std.proofs.Common.{ℕ, ◌*◌, ap, sym, subst, ◌∙◌}
 use Rattle.std.specs.Prelude.{pos}
 use Rattle.std.proofs.lemmas.Option.{get_or_from_slice_get}
-use Rattle.vt_definitions.specs.Depths.{texel_length}
+use Rattle.vt_pages.specs.Depths.{texel_length}
 use Rattle.vt_camera.specs.declared.paths.Camera.{Camera}
 use Rattle.vt_draw.specs.Plain.{camera_at, first_rows}
 use Rattle.vt_draw.specs.Views.{WantsNone, source_of}

@@ -1,5 +1,5 @@
 use Rattle.std.proofs.Common.{ap, ◌∙◌}
-use Rattle.vt_definitions.specs.Texels.{Source}
+use Rattle.vt_pages.specs.Texels.{Source}
 use Rattle.vt_camera.specs.declared.surfaces.Surface.{Surface}
 use Rattle.vt_draw.specs.Plain.{chain_of, plain_picture, plain_samples}
 use Rattle.vt_draw.proofs.WantedLevels.{levels_whole}

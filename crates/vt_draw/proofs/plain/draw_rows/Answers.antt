@@ -1,5 +1,5 @@
 use Rattle.std.proofs.Common.{◌≡◌, ℕ, ◌-◌, ◌*◌, ◌++◌, length, take, ap, ap₂, sym, subst, ◌∙◌, arith}
-use Rattle.vt_definitions.specs.Depths.{texel_length}
+use Rattle.vt_pages.specs.Depths.{texel_length}
 use Rattle.vt_camera.specs.Rows.{RowView}
 use Rattle.vt_draw.specs.Views.{rows_shown, source_of}
 use Rattle.vt_draw.proofs.WantedLevels.{drawable}

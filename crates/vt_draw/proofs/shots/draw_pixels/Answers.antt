@@ -5,7 +5,7 @@ use Rattle.vt_pages.specs.Shape.{Shape}
 use Rattle.vt_pages.specs.Pages.{levels_of, pages_of, IsWithinLimits}
 use Rattle.vt_camera.specs.declared.surfaces.Surface.{Surface}
 use Rattle.vt_draw.specs.Lookups.{IsFinest, covering_page}
-use Rattle.vt_definitions.specs.Depths.{texel_bytes, texel_length}
+use Rattle.vt_pages.specs.Depths.{texel_bytes, texel_length}
 use Rattle.vt_draw.specs.Shots.{wanted_page, pixels_wanting, IsDrawn}
 use Rattle.vt_draw.proofs.Counts.{run-none, run_fits, pixels-none, pixels-next}
 use Rattle.vt_draw.proofs.DrawnPixels.{finest_moved, drawn-more, wanted_is, read_is}

@@ -1,6 +1,6 @@
 use Rattle.std.proofs.Common.{◌≡◌, ℕ, ◌+◌, ◌<◌, ◌≤◌, length, slice_index}
 use Rattle.vt_draw.specs.Lookups.{Note, IsFinest}
-use Rattle.vt_definitions.specs.Depths.{texel_bytes}
+use Rattle.vt_pages.specs.Depths.{texel_bytes}
 use Rattle.vt_draw.specs.Shots.{pixels_wanting, run_of, IsDrawn}
 use Rattle.vt_draw.proofs.shots.draw_pixels.Given as goal
 

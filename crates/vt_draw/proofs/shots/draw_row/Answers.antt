@@ -1,5 +1,5 @@
 use Rattle.std.proofs.Common.{◌≡◌, ℕ, ◌+◌, ◌*◌, ◌<◌, ◌^◌, slice_index, sym, ap, ◌∙◌, subst, arith}
-use Rattle.vt_definitions.specs.Depths.{texel_length}
+use Rattle.vt_pages.specs.Depths.{texel_length}
 use Rattle.vt_draw.proofs.DrawnRows.{two_left, drawn_as, counted_as}
 use Rattle.vt_draw.proofs.shots.draw_row.Goals as goal
 

@@ -1,6 +1,6 @@
 use Rattle.std.proofs.Common.{◌≡◌, take}
 use Rattle.vt_plan.specs.Wants.{pages_wanted}
-use Rattle.vt_evict.specs.Orders.{line_pages}
+use Rattle.vt_plan.specs.Orders.{line_pages}
 use Rattle.vt_evict.specs.Kept.{IsClosed}
 use Rattle.vt_evict.proofs.lines.add_lines.Given as goal
 

@@ -4,7 +4,7 @@ use Rattle.vt_plan.specs.Shape.{Shape}
 use Rattle.vt_plan.specs.Pages.{pages_of}
 use Rattle.vt_plan.specs.FeedbackTypes.Wanted.{Wanted}
 use Rattle.vt_plan.specs.Wants.{pages_wanted}
-use Rattle.vt_evict.specs.Orders.{line_pages}
+use Rattle.vt_plan.specs.Orders.{line_pages}
 use Rattle.vt_evict.proofs.LineLemmas.{line_pages-none, line_pages-more, walked_over, closed_none}
 use Rattle.vt_evict.proofs.lines.walk_lines.Goals as goal
 

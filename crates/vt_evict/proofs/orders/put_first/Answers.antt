@@ -2,9 +2,9 @@ use Rattle.std.proofs.Common.{◌≡◌, ℕ, ◌&&◌, false, List, drop, lengt
 use Rattle.std.specs.List.{filter}
 use Rattle.std.specs.Map.{keys_of}
 use Rattle.std.proofs.Math.Seq.{drop-length}
-use Rattle.vt_evict.specs.Orders.{put_first, promoted_if}
+use Rattle.vt_plan.specs.Orders.{put_first, promoted_if}
 use Rattle.vt_plan.specs.PageLists.{is_in}
-use Rattle.vt_evict.specs.Views.{is_loose_below}
+use Rattle.vt_plan.specs.Views.{is_loose_below}
 use Rattle.vt_evict.proofs.ListLemmas.{put_first-none}
 use Rattle.vt_plan.proofs.ListLemmas.{is_in-filter}
 use Rattle.vt_evict.proofs.OrderLemmas.{step_back, put_back, back_start, still_in}

@@ -1,8 +1,8 @@
 use Rattle.std.proofs.Common.{◌≡◌, ◌++◌, drop, length}
 use Rattle.std.specs.List.{filter}
 use Rattle.std.specs.Map.{keys_of}
-use Rattle.vt_evict.specs.Orders.{put_first}
-use Rattle.vt_evict.specs.Views.{is_loose_below}
+use Rattle.vt_plan.specs.Orders.{put_first}
+use Rattle.vt_plan.specs.Views.{is_loose_below}
 use Rattle.vt_evict.specs.Kept.{IsWalk}
 use Rattle.vt_evict.proofs.orders.put_first.Given as goal
 

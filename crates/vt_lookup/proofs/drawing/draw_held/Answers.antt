@@ -1,5 +1,5 @@
 use Rattle.std.proofs.Common.{ℕ, sym, subst}
-use Rattle.vt_draw.specs.Shots.{shot_row}
+use Rattle.vt_pictures.specs.Shots.{shot_row}
 use Rattle.vt_pictures.specs.Evidence.{AreShown}
 use Rattle.vt_pictures.proofs.Handed.{shown_by_more}
 use Rattle.vt_lookup.specs.Notes.{IsNotedIn}

@@ -1,6 +1,6 @@
 use Rattle.std.proofs.Common.{◌≡◌, ℕ, sym, ap, ◌∙◌, subst}
-use Rattle.vt_draw.specs.Lookups.{Note}
-use Rattle.vt_draw.specs.Shots.{shot_row}
+use Rattle.vt_pictures.specs.DrawLookups.{Note}
+use Rattle.vt_pictures.specs.Shots.{shot_row}
 use Rattle.vt_pictures.specs.Evidence.{AreShown}
 use Rattle.vt_pictures.proofs.Handed.{shown_by_more}
 use Rattle.vt_grace.specs.Values.{HeldValue}

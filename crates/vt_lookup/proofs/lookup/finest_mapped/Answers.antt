@@ -1,7 +1,7 @@
 use Rattle.std.proofs.Common.{◌≡◌, ◌/◌, ◌≤◌, ◌<◌, true, inl, inr, refl, sym, ap, ◌∙◌, arith}
 use Rattle.std.proofs.lemmas.Bool.{cases_lt}
 use Rattle.vt_pages.specs.Pages.{levels_of, level_of, ancestor_of}
-use Rattle.vt_draw.specs.Lookups.{EntryNote}
+use Rattle.vt_pictures.specs.DrawLookups.{EntryNote}
 use Rattle.vt_grace.specs.declared.views.PassView.{PassView}
 use Rattle.vt_lookup.proofs.Noting.{noted_behind_entry, entry_noted, one_more, noted_as}
 use Rattle.vt_lookup.proofs.Climbing.{half_more, ancestor_named, ancestor_index, ancestor_level, some_root}

@@ -1,7 +1,7 @@
 use Rattle.std.proofs.Common.{◌≡◌, ℕ, ◌-◌, ◌/◌, ◌^◌, ◌<◌, ◌≤◌}
 use Rattle.std.specs.Prelude.{◌≢◌}
 use Rattle.vt_pages.specs.Pages.{level_of, name_at, ancestor_of, root_of}
-use Rattle.vt_draw.specs.Lookups.{EntryNote}
+use Rattle.vt_pictures.specs.DrawLookups.{EntryNote}
 use Rattle.vt_grace.specs.Tokens.{IsHeldOf}
 use Rattle.vt_lookup.specs.Notes.{IsNotedIn, HasNotedMore}
 use Rattle.vt_lookup.proofs.lookup.finest_mapped.Given as goal

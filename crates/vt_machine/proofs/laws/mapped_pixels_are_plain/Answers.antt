@@ -1,4 +1,4 @@
-use Rattle.vt_workers.specs.NearestPlain.{mapped_is_plain}
+use Rattle.vt_pictures.specs.NearestPlain.{mapped_is_plain}
 use Rattle.vt_machine.proofs.laws.mapped_pixels_are_plain.Goals as goal
 
 pub returns : goal.returns

@@ -1,6 +1,6 @@
 use Rattle.std.proofs.Common.{◌*◌, ◌+◌, ◌/◌, length, sym, ap, ◌∙◌, subst, arith}
 use Rattle.std.proofs.lemmas.List.{with_items_is}
-use Rattle.vt_definitions.specs.Depths.{IsDepth}
+use Rattle.vt_ppm.specs.Depths.{IsDepth}
 use Rattle.vt_mip.proofs.InPlace.{half_made}
 use Rattle.vt_mip.proofs.halving.halved_image.Goals as goal
 

@@ -1,5 +1,5 @@
 use Rattle.std.proofs.Common.{◌≡◌, ◌+◌, ◌/◌, ◌<◌, ◌≤◌, ◌⊎◌, inl, inr, ℕ, refl, sym, ap, ◌∙◌, arith}
-use Rattle.vt_definitions.specs.Sides.{side}
+use Rattle.vt_ppm.specs.Sides.{side}
 use Rattle.vt_mip.proofs.StripRows.{side_next}
 use Rattle.vt_mip.proofs.StripRoom.{needs_more, needs_few, levels_are}
 use Rattle.vt_mip.proofs.strip_chain.count_levels.Goals as goal

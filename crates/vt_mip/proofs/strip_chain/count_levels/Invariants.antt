@@ -1,5 +1,5 @@
 use Rattle.std.proofs.Common.{◌≡◌, ◌+◌, ◌≤◌}
-use Rattle.vt_definitions.specs.Sides.{side}
+use Rattle.vt_ppm.specs.Sides.{side}
 use Rattle.vt_mip.proofs.StripRoom.{NeedsLevels}
 use Rattle.vt_mip.proofs.strip_chain.count_levels.Given as goal
 

@@ -1,6 +1,6 @@
 use Rattle.std.proofs.Common.{◌≡◌, ◌+◌, ◌*◌, ◌∙◌, ap, sym, ℕ, arith}
-use Rattle.vt_definitions.specs.Depths.{texel_length}
-use Rattle.vt_definitions.specs.Sides.{side}
+use Rattle.vt_ppm.specs.Depths.{texel_length}
+use Rattle.vt_ppm.specs.Sides.{side}
 use Rattle.vt_ppm.specs.declared.header.Header.{Header}
 use Rattle.vt_mip.proofs.StripRoom.{room_none, room_next, room_few}
 use Rattle.vt_mip.proofs.strip_chain.room_length.Goals as goal

@@ -1,5 +1,5 @@
 use Rattle.std.proofs.Common.{◌≡◌, ◌≤◌}
-use Rattle.vt_definitions.specs.Sides.{side}
+use Rattle.vt_ppm.specs.Sides.{side}
 use Rattle.vt_mip.proofs.strip_chain.side_at.Given as goal
 
 abbrev pub invariant-loop-level : goal.invariant-loop-level

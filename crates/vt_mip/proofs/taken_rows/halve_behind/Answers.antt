@@ -1,5 +1,5 @@
 use Rattle.std.proofs.Common.{ℕ, ◌+◌, ◌*◌, ◌/◌, ◌≤◌, ◌≡◌, ◌%◌, length, ap, ◌∙◌, sym, refl, arith}
-use Rattle.vt_definitions.specs.Depths.{texel_length}
+use Rattle.vt_ppm.specs.Depths.{texel_length}
 use Rattle.vt_mip.proofs.Rasters.{raster_small, row_small}
 use Rattle.vt_mip.proofs.TakenRows.{half_room, rows_taken}
 use Rattle.vt_mip.proofs.taken_rows.halve_behind.Goals as goal

@@ -1,4 +1,4 @@
-use Rattle.vt_workers.specs.Jobs.{job_of}
+use Rattle.vt_word_workers.specs.Jobs.{job_of}
 use Rattle.vt_pass.proofs.Lending.{given_root, given_job, given_ran}
 use Rattle.vt_pass.proofs.pass.ask_and_run.Goals as goal
 

@@ -2,12 +2,12 @@ use Rattle.std.proofs.Common.{List, refl, sym, subst, ap, rules, length}
 use Rattle.std.specs.Prelude.{All}
 use Rattle.std.specs.List.{refill}
 use Rattle.vt_grace.specs.Values.{WordsValue}
-use Rattle.vt_evict.specs.PlanTypes.batches.Planned.{Planned}
-use Rattle.vt_loaders.specs.declared.queued.Queues.{Queues}
-use Rattle.vt_loaders.specs.QueuedLoaders.{QueuedView, MayLoad, HasLoaded}
-use Rattle.vt_workers.specs.All.{AllReady}
-use Rattle.vt_workers.specs.Jobs.{Job, job_of}
-use Rattle.vt_workers.proofs.Lent.{same_number, all_did}
+use Rattle.vt_word_workers.specs.PlanTypes.batches.Planned.{Planned}
+use Rattle.vt_word_workers.specs.LoadTypes.queued.Queues.{Queues}
+use Rattle.vt_word_workers.specs.QueuedLoaders.{QueuedView, MayLoad, HasLoaded}
+use Rattle.vt_word_workers.specs.All.{AllReady}
+use Rattle.vt_word_workers.specs.Jobs.{Job, job_of}
+use Rattle.vt_word_workers.proofs.MachineLent.{same_number, all_did}
 use Rattle.vt_word_workers.specs.WordSamplers.{WordSampler}
 use Rattle.vt_word_workers.specs.declared.workers.WordStreamer.{WordStreamer}
 use Rattle.vt_word_workers.specs.SamplerTasks.{MayDraw, HasDrawn}

@@ -4,7 +4,7 @@ use Rattle.vt_pages.specs.Pages.{root_of, IsWithinLimits}
 use Rattle.vt_journal.specs.declared.changes.Change.{Change}
 use Rattle.vt_journal.specs.Changes.{at}
 use Rattle.vt_tiles.specs.Format.{stored}
-use Rattle.vt_files.specs.Pictures.{expected_pictures}
+use Rattle.vt_replay_rows.specs.Pictures.{expected_pictures}
 use Rattle.vt_replay_rows.specs.Scenes.{scene_of}
 use Rattle.vt_replay_rows.specs.Following.{MayBePlayed}
 use Rattle.vt_replay.specs.Playing.{ArePlayed, HasWritten}

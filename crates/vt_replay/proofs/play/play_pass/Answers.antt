@@ -2,9 +2,9 @@ use Rattle.std.proofs.Common.{ℕ, List, [], ◌∷◌, ◌∙◌, subst, refl, 
 use Rattle.std.proofs.lemmas.Result.{err_from_is_err_and}
 use Rattle.vt_ppm.specs.Picture.{picture_bytes}
 use Rattle.vt_tiles.specs.Format.{stored}
-use Rattle.vt_files.specs.Effects.{folder_effect}
-use Rattle.vt_files.specs.Expectations.{Writes}
-use Rattle.vt_files.specs.Pictures.{expected_picture}
+use Rattle.vt_outside.specs.Effects.{folder_effect}
+use Rattle.vt_outside.specs.Expectations.{Writes}
+use Rattle.vt_replay_rows.specs.Pictures.{expected_picture}
 use Rattle.vt_replay_rows.specs.Scenes.{scene_of}
 use Rattle.vt_replay.specs.Replayed.{replayed_rows}
 use Rattle.vt_replay.proofs.Written.{nothing_written, samples_written}

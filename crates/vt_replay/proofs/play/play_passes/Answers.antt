@@ -7,10 +7,10 @@ use Rattle.vt_journal.specs.declared.changes.Change.{Change}
 use Rattle.vt_journal.specs.JournalText.{Pass}
 use Rattle.vt_journal.specs.Passes.{pass_of}
 use Rattle.vt_tiles.specs.Format.{stored}
-use Rattle.vt_files.specs.Effects.{folder_state}
-use Rattle.vt_files.specs.Expectations.{with_files}
-use Rattle.vt_files.specs.Pictures.{expected_pictures}
-use Rattle.vt_files.proofs.Writing.{HasPictures, no_pictures}
+use Rattle.vt_outside.specs.Effects.{folder_state}
+use Rattle.vt_outside.specs.Expectations.{with_files}
+use Rattle.vt_replay_rows.specs.Pictures.{expected_pictures}
+use Rattle.vt_replay_rows.proofs.WrittenPictures.{HasPictures, no_pictures}
 use Rattle.vt_replay_rows.specs.Scenes.{scene_of}
 use Rattle.vt_replay.specs.Playing.{AreRowsWithin}
 use Rattle.vt_replay.specs.Replayed.{replayed_rows, pictures_of, replay_file}

@@ -1,9 +1,9 @@
 use Rattle.std.proofs.Common.{◌≡◌, ℕ, ◌≤◌, List, Some}
 use Rattle.std.specs.Prelude.{slice_get, MatchOption}
 use Rattle.vt_tiles.specs.Format.{stored}
-use Rattle.vt_files.specs.Effects.{folder_state, folder_effect}
-use Rattle.vt_files.specs.Expectations.{AsksNone}
-use Rattle.vt_files.proofs.Writing.{HasPictures}
+use Rattle.vt_outside.specs.Effects.{folder_state, folder_effect}
+use Rattle.vt_outside.specs.Expectations.{AsksNone}
+use Rattle.vt_replay_rows.proofs.WrittenPictures.{HasPictures}
 use Rattle.vt_replay_rows.specs.Scenes.{scene_of}
 use Rattle.vt_replay_rows.specs.Following.{IsReadOn}
 use Rattle.vt_replay.specs.Playing.{IsStaged}

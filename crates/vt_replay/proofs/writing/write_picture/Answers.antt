@@ -1,9 +1,9 @@
 use Rattle.std.proofs.Common.{◌≡◌, ◌∙◌}
 use Rattle.std.proofs.lemmas.Result.{err_from_is_err_and}
 use Rattle.vt_ppm.specs.Picture.{picture_bytes}
-use Rattle.vt_words.specs.Names.{picture_name}
-use Rattle.vt_files.specs.Effects.{folder_state, folder_effect}
-use Rattle.vt_files.proofs.Writing.{unwritten, written_as}
+use Rattle.vt_replay_rows.specs.Names.{picture_name}
+use Rattle.vt_outside.specs.Effects.{folder_state, folder_effect}
+use Rattle.vt_outside.proofs.Writing.{unwritten, written_as}
 use Rattle.vt_replay.proofs.writing.write_picture.Goals as goal
 
 pub returns-in_err-encode_into : goal.returns-in_err-encode_into

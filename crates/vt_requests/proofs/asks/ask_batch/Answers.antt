@@ -1,10 +1,10 @@
 use Rattle.std.proofs.Common.{arith, ◌≡◌, ◌+◌, ◌<◌, ◌∙◌, ap, sym, subst, refl, length, length-append, None, [], ◌∷◌}
 use Rattle.std.proofs.lemmas.Option.{slice_get-get_or}
 use Rattle.vt_table.specs.Pages.{pages_of}
-use Rattle.vt_loaders.specs.Format.{tile_length}
-use Rattle.vt_loaders.specs.Queues.{view_of}
+use Rattle.vt_load.specs.Format.{tile_length}
+use Rattle.vt_load.specs.Queues.{view_of}
 use Rattle.vt_machine.specs.PlanTypes.batches.Planned.{Planned}
-use Rattle.vt_loaders.proofs.Dealing.{popped_all}
+use Rattle.vt_load.proofs.Dealing.{popped_all}
 use Rattle.vt_requests.specs.BatchRounds.{ArePut, page_if}
 use Rattle.vt_requests.proofs.Asking.{put_none, asked_none, put_more, not_full, asked_more}
 use Rattle.vt_requests.proofs.asks.ask_batch.Goals as goal

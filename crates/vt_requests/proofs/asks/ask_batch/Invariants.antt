@@ -2,8 +2,8 @@ use Rattle.std.proofs.Common.{◌≡◌, ℕ, ◌+◌, ◌<◌, length}
 use Rattle.std.specs.Prelude.{All}
 use Rattle.vt_table.specs.Shape.{Shape}
 use Rattle.vt_table.specs.Pages.{pages_of}
-use Rattle.vt_loaders.specs.Format.{tile_length}
-use Rattle.vt_loaders.specs.Queues.{view_of, splits_of, IsOf}
+use Rattle.vt_load.specs.Format.{tile_length}
+use Rattle.vt_load.specs.Queues.{view_of, splits_of, IsOf}
 use Rattle.vt_requests.specs.BatchRounds.{ArePut}
 use Rattle.vt_requests.proofs.Asking.{HasPut}
 use Rattle.vt_requests.proofs.asks.ask_batch.Given as goal

@@ -1,7 +1,7 @@
 use Rattle.std.proofs.Common.{◌≡◌, ◌+◌, ◌∙◌, ap, subst, sym, length, length-append, [], ◌∷◌, arith}
 use Rattle.std.specs.Prelude.{All}
 use Rattle.std.proofs.lemmas.List.Elements.{All-push}
-use Rattle.vt_loaders.proofs.Dealing.{popped_all}
+use Rattle.vt_load.proofs.Dealing.{popped_all}
 use Rattle.vt_requests.proofs.asks.give_back.Goals as goal
 
 pub loop-loaded-preserved : goal.loop-loaded-preserved

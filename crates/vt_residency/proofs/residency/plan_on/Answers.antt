@@ -1,7 +1,7 @@
 use Rattle.std.proofs.Common.{◌≡◌, List, sym, ap, subst, ◌∙◌, length}
 use Rattle.vt_pages.specs.Limits.{most_frames}
 use Rattle.vt_evict.specs.PlanTypes.batches.Planned.{Planned}
-use Rattle.vt_evict.specs.Views.{RecencyView}
+use Rattle.vt_plan.specs.Views.{RecencyView}
 use Rattle.vt_evict.specs.Batches.{IsLawful}
 use Rattle.std.specs.List.{filter}
 use Rattle.std.proofs.Common.{◌++◌, ◌≤◌}

@@ -3,10 +3,10 @@ use Rattle.std.specs.Prelude.{slice_index, slice_set}
 use Rattle.std.proofs.lemmas.Nat.{mul-le}
 use Rattle.std.proofs.lemmas.Bool.{cases_lt}
 use Rattle.std.proofs.lemmas.List.{get_or-set_same, take_more_set, take_all, reverse-append}
-use Rattle.vt_draw.specs.Lookups.{Note}
+use Rattle.vt_lookup.specs.Lookups.{Note}
 use Rattle.vt_lookup.specs.Evidence.{AreShown}
 use Rattle.vt_lookup.proofs.Handed.{shown_by_more}
-use Rattle.vt_draw.specs.Shots.{shot_row, wants_in_rows}
+use Rattle.vt_lookup.specs.Shots.{shot_row, wants_in_rows}
 use Rattle.vt_lookup.specs.GraceTypes.views.PassView.{PassView}
 use Rattle.vt_lookup.specs.Notes.{IsNotedIn, HasHeldMore}
 use Rattle.vt_sampler.specs.Held.{WasHeld}

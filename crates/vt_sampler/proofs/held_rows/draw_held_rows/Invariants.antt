@@ -1,6 +1,6 @@
 use Rattle.std.proofs.Common.{◌≡◌, ℕ, ◌-◌, ◌*◌, ◌/◌, ◌%◌, ◌<◌, ◌≤◌, length, take, reverse}
 use Rattle.std.specs.Prelude.{slice_index}
-use Rattle.vt_draw.specs.Shots.{shot_row, wants_in_rows}
+use Rattle.vt_lookup.specs.Shots.{shot_row, wants_in_rows}
 use Rattle.vt_lookup.specs.Evidence.{AreShown}
 use Rattle.vt_lookup.specs.Tokens.{IsPassOf}
 use Rattle.vt_lookup.specs.Notes.{IsNotedIn, HasHeldMore}

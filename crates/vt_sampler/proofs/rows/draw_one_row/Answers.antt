@@ -1,7 +1,7 @@
 use Rattle.std.proofs.Common.{◌≡◌, ◌∙◌, ap, subst, sym, length}
-use Rattle.vt_draw.specs.Lookups.{Note}
-use Rattle.vt_draw.proofs.DrawnRows.{drawn_by_more}
-use Rattle.vt_draw.specs.Shots.{shot_row, AreDrawn}
+use Rattle.vt_lookup.specs.Lookups.{Note}
+use Rattle.vt_lookup.proofs.DrawnRows.{drawn_by_more}
+use Rattle.vt_lookup.specs.Shots.{shot_row, AreDrawn}
 use Rattle.vt_table.specs.Views.{TableView}
 use Rattle.vt_sampler.specs.Notes.{IsTrueOf}
 use Rattle.vt_sampler.proofs.Truths.{true_back}

@@ -1,8 +1,8 @@
 use Rattle.std.proofs.Common.{◌≡◌, ℕ, ◌+◌, ◌*◌, ◌≤◌, inl, inr, List, ◌∙◌, ap, sym, subst, length, arith}
 use Rattle.std.proofs.lemmas.Nat.{mul-le}
 use Rattle.std.proofs.lemmas.Bool.{cases_lt}
-use Rattle.vt_draw.specs.Shots.{shot_row, AreDrawn, pixels_wanting, pixels_in_rows}
-use Rattle.vt_draw.proofs.Counts.{pixels-most}
+use Rattle.vt_lookup.specs.Shots.{shot_row, AreDrawn, pixels_wanting, pixels_in_rows}
+use Rattle.vt_lookup.proofs.Counts.{pixels-most}
 use Rattle.vt_sampler.specs.Notes.{IsTrueOf}
 use Rattle.vt_sampler.specs.Samplers.{own_rows, own_count, row_in, row_length}
 use Rattle.vt_sampler.proofs.Quotients.{apart, quotient_after, rest_after, rest_small, quotient_small}

@@ -1,6 +1,6 @@
 use Rattle.std.proofs.Common.{◌≡◌, ℕ, ◌-◌, ◌*◌, ◌/◌, ◌%◌, ◌<◌, length}
 use Rattle.std.specs.Prelude.{slice_index}
-use Rattle.vt_draw.specs.Shots.{shot_row, AreDrawn, pixels_in_rows}
+use Rattle.vt_lookup.specs.Shots.{shot_row, AreDrawn, pixels_in_rows}
 use Rattle.vt_sampler.specs.Notes.{IsTrueOf}
 use Rattle.vt_sampler.specs.Samplers.{own_rows, row_in}
 use Rattle.vt_sampler.proofs.rows.draw_rows.Given as goal

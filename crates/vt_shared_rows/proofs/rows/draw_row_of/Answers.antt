@@ -1,7 +1,7 @@
 use Rattle.std.proofs.Common.{ℕ, List, length, sym, ap, ◌∙◌, subst}
 use Rattle.vt_draw.specs.Shots.{shot_row}
-use Rattle.vt_pictures.specs.Evidence.{AreShown}
-use Rattle.vt_lookup.specs.Notes.{IsNotedIn}
+use Rattle.vt_sampler.specs.Evidence.{AreShown}
+use Rattle.vt_sampler.specs.LookupNotes.{IsNotedIn}
 use Rattle.vt_shared_rows.proofs.Keepers.{refilled}
 use Rattle.vt_shared_rows.proofs.rows.draw_row_of.Goals as goal
 

@@ -4,7 +4,7 @@ use Rattle.std.proofs.lemmas.Nat.{mul-le}
 use Rattle.std.proofs.lemmas.List.{length_push}
 use Rattle.std.proofs.lemmas.List.Elements.{All-nil}
 use Rattle.vt_draw.specs.Shots.{shot_row, wants_in_rows}
-use Rattle.vt_lookup.specs.Notes.{HasHeldMore}
+use Rattle.vt_sampler.specs.LookupNotes.{HasHeldMore}
 use Rattle.vt_sampler.specs.Samplers.{row_length}
 use Rattle.vt_sampler.proofs.Holding.{none_held, held_then}
 use Rattle.vt_sampler.proofs.Sharing.{wants-none, wants-push}

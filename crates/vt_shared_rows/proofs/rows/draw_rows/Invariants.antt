@@ -2,7 +2,7 @@ use Rattle.std.proofs.Common.{◌≡◌, ℕ, ◌+◌, ◌<◌, ◌≤◌, lengt
 use Rattle.std.specs.Prelude.{slice_index, All}
 use Rattle.vt_draw.specs.Shots.{wants_in_rows}
 use Rattle.vt_grace.specs.Tokens.{IsPassOf}
-use Rattle.vt_lookup.specs.Notes.{HasHeldMore}
+use Rattle.vt_sampler.specs.LookupNotes.{HasHeldMore}
 use Rattle.vt_sampler.specs.Samplers.{row_length}
 use Rattle.vt_shared_rows.specs.Bags.{view_of, IsOf}
 use Rattle.vt_shared_rows.specs.SharedRows.{HasTaken, IsKeptRow, VersionsRise, rows_of, versions_of}

@@ -1,5 +1,5 @@
 use Rattle.std.proofs.Common.{◌≡◌, ◌+◌, [], ◌∷◌, ◌++◌, length, length-append, append_assoc, ap, ◌∙◌, arith}
-use Rattle.vt_loaders.proofs.Dealing.{popped_all}
+use Rattle.vt_load.proofs.Dealing.{popped_all}
 use Rattle.vt_steal.specs.Placing.{IsInside}
 use Rattle.vt_steal.proofs.Placement.{placed_one}
 use Rattle.vt_steal.proofs.ending.place_rows.Goals as goal

@@ -1,6 +1,6 @@
 use Rattle.std.proofs.Common.{◌<◌, length, get_or, sym, ap, ◌∙◌, subst, rules}
 use Rattle.std.specs.Prelude.{slice_set}
-use Rattle.vt_loaders.specs.QueueTypes.views.PassView.{PassView}
+use Rattle.vt_load.specs.QueueTypes.views.PassView.{PassView}
 use Rattle.vt_shared_rows.specs.declared.bag.RowJob.{RowJob}
 use Rattle.vt_shared_rows.specs.Bags.{view_of}
 use Rattle.vt_steal.specs.RowTasks.{RowTask}

@@ -1,7 +1,7 @@
 use Rattle.std.proofs.Common.{[], ◌∷◌, ◌++◌, length, ap, ◌∙◌}
-use Rattle.vt_loaders.specs.PassViews.{pass_view}
+use Rattle.vt_load.specs.PassViews.{pass_view}
 use Rattle.vt_shared_rows.specs.Bags.{view_of}
-use Rattle.vt_loaders.proofs.OrderLemmas.{puts_last}
+use Rattle.vt_load.proofs.OrderLemmas.{puts_last}
 use Rattle.vt_steal.proofs.sharing.put_row.Goals.{in-Ok, in-Err}
 use Rattle.vt_steal.proofs.sharing.put_row.Goals as goal
 

@@ -1,8 +1,8 @@
 use Rattle.std.proofs.Common.{◌≡◌, ◌≢◌, ◌<◌, [], ◌∷◌, ◌++◌, length, get_or, ap, ◌∙◌, rules, arith}
 use Rattle.std.proofs.lemmas.List.{get_or-set_other}
-use Rattle.vt_loaders.specs.QueueTypes.views.PassView.{PassView}
-use Rattle.vt_loaders.specs.PassViews.{pass_view, all_shares}
-use Rattle.vt_loaders.specs.Orders.{placed}
+use Rattle.vt_load.specs.QueueTypes.views.PassView.{PassView}
+use Rattle.vt_load.specs.PassViews.{pass_view, all_shares}
+use Rattle.vt_load.specs.Orders.{placed}
 use Rattle.std.specs.Prelude.{take}
 use Rattle.vt_shared_rows.specs.declared.bag.RowJob.{RowJob}
 use Rattle.vt_steal.proofs.Equipping.{put_more}

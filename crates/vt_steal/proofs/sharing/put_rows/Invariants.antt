@@ -1,6 +1,6 @@
 use Rattle.std.proofs.Common.{◌≡◌, ℕ, ◌<◌, ◌≤◌, [], length, get_or, take}
-use Rattle.vt_loaders.specs.PassViews.{pass_view, all_shares}
-use Rattle.vt_loaders.specs.Orders.{placed}
+use Rattle.vt_load.specs.PassViews.{pass_view, all_shares}
+use Rattle.vt_load.specs.Orders.{placed}
 use Rattle.vt_shared_rows.specs.declared.bag.RowJob.{RowJob}
 use Rattle.vt_shared_rows.specs.Bags.{view_of, IsOf}
 use Rattle.vt_steal.proofs.sharing.put_rows.Given as goal

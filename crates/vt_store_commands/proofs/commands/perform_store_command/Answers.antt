@@ -1,4 +1,4 @@
-use Rattle.vt_files.specs.Effects.{sink_state}
+use Rattle.vt_outside.specs.Effects.{sink_state}
 use Rattle.vt_store_commands.proofs.commands.perform_store_command.Goals as goal
 
 pub returns-in-Plain : goal.returns-in-Plain

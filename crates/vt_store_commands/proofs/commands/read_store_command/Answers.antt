@@ -1,8 +1,8 @@
 use Rattle.std.proofs.Common.{◌∙◌, sym}
 use Rattle.clap.specs.Words.{rows_of, found_of}
-use Rattle.vt_words.specs.Arguments.{texts}
+use Rattle.vt_command_words.specs.Arguments.{texts}
 use Rattle.vt_store_commands.specs.commands.{kind_of, rules_of, values_for, shown_store, IsLawfulStore}
-use Rattle.vt_words.proofs.Asked.{asked_of, simple_by, not_named, not_found, is_found, same_asked}
+use Rattle.vt_command_words.proofs.Asked.{asked_of, simple_by, not_named, not_found, is_found, same_asked}
 use Rattle.vt_store_commands.proofs.commands.read_store_command.Goals as goal
 
 pub returns-in_default : goal.returns-in_default

@@ -2,7 +2,7 @@ use Rattle.std.proofs.Common.{ℕ, List, inl, inr, ⊎_elim, sym, subst, ◌∙�
 use Rattle.std.specs.Prelude.{vec_len}
 use Rattle.std.proofs.lemmas.List.{with_items_is}
 use Rattle.std.proofs.lemmas.Result.{err_from_is_err_and}
-use Rattle.vt_files.specs.Effects.{folder_state}
+use Rattle.vt_outside.specs.Effects.{folder_state}
 use Rattle.vt_store_commands.specs.PlainFiles.{HoldsFiles, HasRoom}
 use Rattle.vt_store_commands.proofs.PlainGroups.{next_room, begun, gone_on, all_written}
 use Rattle.vt_store_commands.proofs.plain_groups.write_groups.Goals as goal

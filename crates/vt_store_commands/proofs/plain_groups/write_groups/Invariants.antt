@@ -1,6 +1,6 @@
 use Rattle.std.proofs.Common.{◌≡◌}
 use Rattle.std.specs.Prelude.{vec_len}
-use Rattle.vt_files.specs.Effects.{folder_state}
+use Rattle.vt_outside.specs.Effects.{folder_state}
 use Rattle.vt_store_commands.proofs.PlainGroups.{IsAtGroup}
 use Rattle.vt_store_commands.proofs.plain_groups.write_groups.Given as goal
 

@@ -2,9 +2,9 @@ use Rattle.std.proofs.Common.{◌≡◌, [], Err, ap}
 use Rattle.std.proofs.lemmas.Result.{err_from_is_err_and}
 use Rattle.std.specs.Option.{unwrap_or}
 use Rattle.vt_ppm.specs.Strips.{texture_of}
-use Rattle.vt_files.specs.Effects.{folder_state}
-use Rattle.vt_command_base.specs.Reads.{Closed, file_state}
-use Rattle.vt_command_base.proofs.Seeing.{texture_there}
+use Rattle.vt_outside.specs.Effects.{folder_state}
+use Rattle.vt_command_inputs.specs.Reads.{Closed, file_state}
+use Rattle.vt_command_inputs.proofs.Seeing.{texture_there}
 use Rattle.vt_store_commands.proofs.SeenTextures.{tile_some, coarse_took, coarse_refused, enough_of, files_of}
 use Rattle.vt_store_commands.proofs.seen_textures.read_coarse.Goals as goal
 

@@ -1,5 +1,5 @@
 use Rattle.std.proofs.Common.{◌≡◌, ◌+◌, ◌≤◌, ℕ, [], ◌∷◌, List, ap, ◌∙◌, subst}
-use Rattle.vt_pages.specs.Shape.{Shape}
+use Rattle.vt_journal.specs.Shape.{Shape}
 use Rattle.vt_journal.specs.declared.changes.Change.TheVariants.{Map}
 use Rattle.vt_journal.specs.declared.changes.Event.TheVariants.{Changed}
 use Rattle.vt_streamer.specs.Fills.{words_in}

@@ -1,9 +1,9 @@
 use Rattle.std.proofs.Common.{◌≡◌, ◌+◌, ◌<◌, ◌∙◌, ap, sym, refl, subst, arith, length, length-append, true, [], ◌∷◌, List, Bool}
-use Rattle.vt_pages.specs.Shape.{Shape}
+use Rattle.vt_journal.specs.Shape.{Shape}
 use Rattle.vt_streamer.specs.TableViews.{IsTile}
 use Rattle.vt_queue.specs.declared.items.Loaded.{Loaded}
 use Rattle.vt_queue.specs.Queues.{view_of}
-use Rattle.vt_streaming.specs.Streams.{Streams, is_wanted}
+use Rattle.vt_requests.specs.TakenResults.{Streams, is_wanted}
 use Rattle.vt_streaming.proofs.Making.{as_many_frames}
 use Rattle.vt_streaming.proofs.Taking.{wanted_inside, wanted_new, wanted_tile, streams_none, streams_dropped, streams_kept}
 use Rattle.vt_streaming.proofs.Lasting.{begun, next_entry, under_way}

@@ -1,7 +1,7 @@
 use Rattle.std.proofs.Common.{◌≡◌, ◌+◌, ◌*◌, ◌≤◌, length}
 use Rattle.vt_queue.specs.Queues.{view_of, splits_of, IsOf}
 use Rattle.vt_streamer.specs.Views.{IsStreamerOf}
-use Rattle.vt_streaming.specs.Streams.{Streams}
+use Rattle.vt_requests.specs.TakenResults.{Streams}
 use Rattle.vt_streaming.specs.Reports.{IsUnderWay}
 use Rattle.vt_streaming.proofs.stream.stream_batch.Given as goal
 

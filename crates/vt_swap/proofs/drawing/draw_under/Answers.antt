@@ -1,7 +1,7 @@
 use Rattle.std.proofs.Common.{◌≡◌, ℕ, false, List, sym, ap, ◌∙◌, subst}
 use mathlib.Core.List.{IsPrefix}
-use Rattle.vt_draw.specs.Lookups.{Note}
-use Rattle.vt_draw.specs.Shots.{shot_row}
+use Rattle.vt_pictures.specs.DrawLookups.{Note}
+use Rattle.vt_pictures.specs.Shots.{shot_row}
 use Rattle.vt_pictures.specs.Evidence.{AreShown}
 use Rattle.vt_pictures.proofs.Handed.{shown_by_more}
 use Rattle.vt_swap_steps.specs.LogTypes.records.LogRecord.{LogRecord}

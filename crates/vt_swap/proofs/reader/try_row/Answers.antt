@@ -1,6 +1,6 @@
 use Rattle.std.proofs.Common.{ℕ, ◌≤◌, [], ◌∷◌, length, sym, ap, ◌∙◌, subst}
 use Rattle.left_right.specs.Sides.{view}
-use Rattle.vt_draw.specs.Shots.{shot_row}
+use Rattle.vt_pictures.specs.Shots.{shot_row}
 use Rattle.vt_pictures.specs.Evidence.{AreShown}
 use Rattle.vt_swap_steps.specs.Caches.{cache_of}
 use Rattle.vt_swap_steps.specs.declared.table.NewestTable.{NewestTable}

@@ -1,6 +1,6 @@
 use Rattle.std.proofs.Common.{◌+◌, ◌≤◌, length, sym, subst, arith, rules}
 use Rattle.vt_swap_machine.proofs.Drawers.{AreFirst, first_more, taken, fewer, readers_more}
-use Rattle.vt_word_workers.proofs.Kits.{new_sampler}
+use Rattle.vt_pass.proofs.Kits.{new_sampler}
 use Rattle.std.specs.Prelude.{All}
 use Rattle.vt_swap_machine.specs.DrawKits.{HasReader}
 use Rattle.vt_swap_machine.proofs.draw_kit.new_tasks.Goals as goal

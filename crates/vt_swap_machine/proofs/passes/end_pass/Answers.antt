@@ -1,6 +1,6 @@
 use Rattle.std.proofs.Common.{refl, sym, subst}
 use Rattle.std.specs.Prelude.{All}
-use Rattle.vt_machine.specs.Jobs.{job_of}
+use Rattle.vt_loading.specs.Jobs.{job_of}
 use Rattle.vt_swap_machine.specs.DrawKits.{HasReader}
 use Rattle.vt_swap_machine.proofs.Drawn.{samplers_stay, has_reader, counts_low}
 use Rattle.vt_swap_machine.proofs.Ending.{told_before}

@@ -1,6 +1,6 @@
 use Rattle.std.proofs.Common.{◌<◌, get_or, refl, sym, ◌∙◌, subst, rules}
-use Rattle.vt_pages.specs.Shape.{Shape}
-use Rattle.vt_pages.specs.Pages.{pages_of}
+use Rattle.vt_tiles.specs.Shape.{Shape}
+use Rattle.vt_tiles.specs.Pages.{pages_of}
 use Rattle.vt_swap_machine.proofs.Idle.{ready_once}
 use Rattle.vt_swap_machine.proofs.passes.prepare_pass.Goals as goal
 

@@ -1,5 +1,5 @@
 use Rattle.std.proofs.Common.{List, [], ◌∷◌, ◌++◌, ap, sym, ◌∙◌, rules}
-use Rattle.vt_journal.specs.declared.changes.RowLine.{RowLine}
+use Rattle.vt_pictures.specs.JournalTypes.changes.RowLine.{RowLine}
 use Rattle.vt_swap_machine.specs.DrawKits.{line_of}
 use Rattle.vt_swap_machine.proofs.Drawers.{lines_more, own_here, line_is}
 use Rattle.vt_swap_machine.proofs.told.note_lines.Goals as goal

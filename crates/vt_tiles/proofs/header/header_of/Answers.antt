@@ -1,5 +1,5 @@
 use Rattle.std.proofs.Common.{◌∙◌, ap}
-use Rattle.vt_definitions.specs.Numbers.{number_bytes}
+use Rattle.vt_pages.specs.Numbers.{number_bytes}
 use Rattle.vt_tiles.proofs.Headers.{header_is, number_of_bytes}
 use Rattle.vt_tiles.proofs.header.header_of.Goals as goal
 

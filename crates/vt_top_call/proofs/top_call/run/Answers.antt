@@ -1,5 +1,5 @@
 use Rattle.std.proofs.Common.{sym, ◌∙◌}
-use Rattle.vt_words.specs.Arguments.{texts}
+use Rattle.vt_commands.specs.Arguments.{texts}
 use Rattle.vt_commands.specs.Machines.{machines_of, kind_of}
 use Rattle.vt_commands.specs.Runs.{run_of}
 use Rattle.vt_commands.specs.Waits.{no_machines}

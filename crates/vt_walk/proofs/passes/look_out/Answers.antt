@@ -1,5 +1,5 @@
 use Rattle.std.proofs.Common.{slice_index, ap, ◌∙◌}
-use Rattle.vt_evict.specs.Views.{RecencyView}
+use Rattle.vt_plan.specs.Views.{RecencyView}
 use Rattle.vt_walk.proofs.Running.{wants_inside}
 use Rattle.vt_walk.proofs.passes.look_out.Goals as goal
 

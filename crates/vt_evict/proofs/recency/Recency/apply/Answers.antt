@@ -1,7 +1,7 @@
 use Rattle.std.proofs.Common.{not, nat_eq, sym, ap, ◌∙◌, subst, slice_set, ◌+◌}
 use Rattle.std.specs.List.{filter}
 use Rattle.std.specs.Map.{keys_of}
-use Rattle.vt_evict.specs.Views.{RecencyView}
+use Rattle.vt_plan.specs.Views.{RecencyView}
 use Rattle.vt_evict.specs.Batches.{IsLawfulEntry}
 use Rattle.vt_evict.specs.Kept.{applied}
 use Rattle.vt_evict.proofs.SettleLemmas.{IsApplied, applied_some, applied_none, free_some, free_none}

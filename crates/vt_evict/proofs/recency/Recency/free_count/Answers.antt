@@ -1,6 +1,6 @@
 use Rattle.std.proofs.Common.{◌≡◌, List, ℕ, length, ap, ◌∙◌}
 use Rattle.std.specs.Map.{keys_of}
-use Rattle.vt_evict.specs.Views.{RecencyView, free_frames}
+use Rattle.vt_plan.specs.Views.{RecencyView, free_frames}
 use Rattle.vt_evict.proofs.FreeLemmas.{free_is}
 use Rattle.vt_evict.proofs.Seen.{view_of}
 use Rattle.vt_evict.proofs.recency.Recency.free_count.Goals as goal

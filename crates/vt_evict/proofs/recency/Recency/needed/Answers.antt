@@ -5,8 +5,8 @@ use Rattle.std.proofs.lemmas.List.Elements.{All-map}
 use Rattle.std.proofs.lemmas.List.Sums.{count_by-le-length}
 use Rattle.vt_plan.specs.Pages.{pages_of}
 use Rattle.vt_plan.specs.Wants.{pages_wanted}
-use Rattle.vt_evict.specs.Orders.{line_pages}
-use Rattle.vt_evict.specs.Views.{RecencyView, IsTable, pages_needed}
+use Rattle.vt_plan.specs.Orders.{line_pages}
+use Rattle.vt_plan.specs.Views.{RecencyView, IsTable, pages_needed}
 use Rattle.vt_evict.proofs.LineOrders.{lines_few}
 use Rattle.vt_evict.proofs.TouchLemmas.{needed_is}
 use Rattle.vt_evict.proofs.Seen.{view_of}

@@ -3,7 +3,7 @@ use Rattle.std.specs.List.{range_with_len}
 use Rattle.std.specs.Map.{keys_of}
 use Rattle.vt_plan.specs.Shape.{Shape}
 use Rattle.vt_plan.specs.Pages.{pages_of}
-use Rattle.vt_evict.specs.Views.{RecencyView, IsTable, is_held, first_view}
+use Rattle.vt_plan.specs.Views.{RecencyView, IsTable, is_held, first_view}
 use Rattle.vt_evict.proofs.FirstLemmas.{first_table, first_free}
 use Rattle.vt_evict.proofs.recency.Recency.new.Goals as goal
 

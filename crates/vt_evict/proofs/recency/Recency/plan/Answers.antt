@@ -3,8 +3,8 @@ use Rattle.std.specs.List.{All}
 use Rattle.vt_plan.specs.Pages.{pages_of}
 use Rattle.vt_plan.specs.FeedbackTypes.Wanted.{Wanted}
 use Rattle.vt_plan.specs.Wants.{pages_wanted}
-use Rattle.vt_evict.specs.Views.{RecencyView, IsTable}
-use Rattle.vt_evict.specs.Plans.{missing_pages}
+use Rattle.vt_plan.specs.Views.{RecencyView, IsTable}
+use Rattle.vt_plan.specs.Plans.{missing_pages}
 use Rattle.vt_plan.specs.Missing.{missing_from}
 use Rattle.vt_evict.proofs.PlansMade.{planned_is, planned_lawful, planned_most}
 use Rattle.vt_evict.proofs.recency.Recency.plan.Goals as goal

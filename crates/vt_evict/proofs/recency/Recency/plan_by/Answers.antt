@@ -2,8 +2,8 @@ use Rattle.std.proofs.Common.{◌≡◌, ℕ, List, map, min, length, ap, ◌∙
 use Rattle.std.specs.List.{range_with_len}
 use Rattle.std.specs.Map.{keys_of}
 use Rattle.vt_plan.specs.FeedbackTypes.Wanted.{Wanted}
-use Rattle.vt_evict.specs.Views.{RecencyView, free_frames}
-use Rattle.vt_evict.specs.Plans.{plan_by, candidates, planned_at, planned_count}
+use Rattle.vt_plan.specs.Views.{RecencyView, free_frames}
+use Rattle.vt_plan.specs.Plans.{plan_by, candidates, planned_at, planned_count}
 use Rattle.vt_evict.proofs.PlanLemmas.{any_taken}
 use Rattle.vt_evict.proofs.FreeLemmas.{free_is}
 use Rattle.vt_evict.proofs.Seen.{view_of}

@@ -4,10 +4,10 @@ use Rattle.std.specs.Map.{keys_of}
 use Rattle.vt_plan.specs.FeedbackTypes.Wanted.{Wanted}
 use Rattle.vt_plan.specs.Wants.{pages_wanted}
 use Rattle.vt_plan.specs.declared.batches.Planned.{Planned}
-use Rattle.vt_evict.specs.Orders.{line_pages}
+use Rattle.vt_plan.specs.Orders.{line_pages}
 use Rattle.vt_plan.specs.PageLists.{is_in}
-use Rattle.vt_evict.specs.Views.{RecencyView}
-use Rattle.vt_evict.specs.Plans.{candidates}
+use Rattle.vt_plan.specs.Views.{RecencyView}
+use Rattle.vt_plan.specs.Plans.{candidates}
 use Rattle.vt_plan.specs.Entries.{taken_at}
 use Rattle.vt_evict.proofs.SettleLemmas.{order_facts}
 use Rattle.vt_evict.proofs.PlanLemmas.{none_taken}

@@ -1,6 +1,6 @@
 use Rattle.std.proofs.Common.{ℕ, ◌<◌, ◌≤◌, length, drop, get_or}
 use Rattle.vt_plan.specs.declared.batches.Planned.{Planned}
-use Rattle.vt_evict.specs.Views.{IsTable}
+use Rattle.vt_plan.specs.Views.{IsTable}
 use Rattle.vt_evict.specs.Batches.{IsSettled, IsLawfulEntry, read_entries}
 use Rattle.vt_evict.proofs.recency.Recency.settle.Given as goal
 

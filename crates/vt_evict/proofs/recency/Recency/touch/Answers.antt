@@ -2,8 +2,8 @@ use Rattle.std.proofs.Common.{◌≡◌, ℕ, ◌-◌, List, sym, ap, ◌∙◌,
 use Rattle.std.specs.List.{filter}
 use Rattle.std.specs.Map.{keys_of}
 use Rattle.vt_plan.specs.Pages.{pages_of}
-use Rattle.vt_evict.specs.Orders.{put_first}
-use Rattle.vt_evict.specs.Views.{RecencyView, IsTable, is_loose_below, touched}
+use Rattle.vt_plan.specs.Orders.{put_first}
+use Rattle.vt_plan.specs.Views.{RecencyView, IsTable, is_loose_below, touched}
 use Rattle.vt_evict.specs.Kept.{IsWalk}
 use Rattle.vt_evict.proofs.TouchLemmas.{touched_is, touched_table}
 use Rattle.vt_evict.proofs.Seen.{view_of}

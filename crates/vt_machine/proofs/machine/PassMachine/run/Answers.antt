@@ -1,7 +1,7 @@
 use Rattle.std.proofs.Common.{List, ap, rules}
 use Rattle.vt_evict.specs.PlanTypes.batches.Planned.{Planned}
-use Rattle.vt_workers.specs.Jobs.{job_of}
-use Rattle.vt_workers.proofs.Lent.{same_number, one_ready, all_ready, one_did, all_did}
+use Rattle.vt_machine.specs.Jobs.{job_of}
+use Rattle.vt_machine.proofs.Lent.{same_number, one_ready, all_ready, one_did, all_did}
 use Rattle.vt_machine.proofs.machine.PassMachine.run.Goals as goal
 
 pub work_together-requires-clause-loaders : goal.work_together-requires-clause-loaders

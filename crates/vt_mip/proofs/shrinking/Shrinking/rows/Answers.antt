@@ -1,5 +1,5 @@
 use Rattle.std.proofs.Common.{ℕ, ◌+◌, ◌-◌, ◌*◌, ◌%◌, length, take, drop, ap, ◌∙◌, subst, arith}
-use Rattle.vt_definitions.specs.Depths.{texel_length}
+use Rattle.vt_ppm.specs.Depths.{texel_length}
 use Rattle.vt_ppm.specs.Files.{IsPiece}
 use Rattle.vt_ppm.specs.Image.{ImageView}
 use Rattle.vt_mip.specs.InPlace.{ShrinksFront}

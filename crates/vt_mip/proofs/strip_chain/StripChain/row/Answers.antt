@@ -1,5 +1,5 @@
 use Rattle.std.proofs.Common.{◌≡◌, ◌+◌, ◌-◌, ◌<◌, ◌≤◌, IsErr, OnOk, OnErr, length, sym, ap, ◌∙◌, subst, arith}
-use Rattle.vt_definitions.specs.Sides.{side}
+use Rattle.vt_ppm.specs.Sides.{side}
 use Rattle.vt_ppm.specs.Counts.{Rose}
 use Rattle.vt_mip.specs.StripChains.{RowsRead, RowsFailed, first_under, rows_under, level_row_length}
 use Rattle.vt_mip.proofs.StripRoom.{room_grows, level_seen}

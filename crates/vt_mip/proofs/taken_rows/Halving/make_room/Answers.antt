@@ -1,5 +1,5 @@
 use Rattle.std.proofs.Common.{◌+◌, ◌*◌, ◌/◌, ◌≤◌, subst, sym, arith}
-use Rattle.vt_definitions.specs.Depths.{texel_length}
+use Rattle.vt_ppm.specs.Depths.{texel_length}
 use Rattle.vt_mip.specs.TakenRows.{HalvingView, HalvesFront}
 use Rattle.vt_mip.proofs.TakenRows.{longer_raster, fewer_rows}
 use Rattle.vt_mip.proofs.taken_rows.Halving.make_room.Goals as goal

@@ -1,7 +1,7 @@
 use Rattle.std.proofs.Common.{◌≡◌, ℕ, ◌+◌, ◌*◌, ◌/◌, ◌≤◌, List, length, ap, ◌∙◌, subst, sym, refl, arith}
 use Rattle.std.specs.Vec.{with_items}
 use Rattle.std.proofs.lemmas.List.{with_items_is}
-use Rattle.vt_definitions.specs.Depths.{texel_length}
+use Rattle.vt_ppm.specs.Depths.{texel_length}
 use Rattle.vt_ppm.specs.Files.{IsPiece}
 use Rattle.vt_mip.specs.Halves.{IsHalvedRaster}
 use Rattle.vt_mip.specs.TakenRows.{HalvingView, HalvesFront}

@@ -1,6 +1,6 @@
 use Rattle.std.proofs.Common.{ap, sym, ◌∙◌, subst}
-use Rattle.vt_workers.specs.Jobs.{job_of}
-use Rattle.vt_workers.specs.All.{AllReady}
+use Rattle.vt_word_workers.specs.Jobs.{job_of}
+use Rattle.vt_word_workers.specs.All.{AllReady}
 use Rattle.vt_word_workers.specs.SamplerTasks.{MayDraw}
 use Rattle.vt_pass.specs.WordMachines.{WordView}
 use Rattle.vt_pass.proofs.Idle.{detach_draws}

@@ -1,7 +1,7 @@
 use Rattle.std.proofs.Common.{ap, sym, ◌∙◌, subst}
 use Rattle.vt_word_workers.specs.Kits.{IsSameKit}
 use Rattle.vt_pass.specs.WordMachines.{WordView}
-use Rattle.vt_word_workers.proofs.Rooms.{always_ok, always_err}
+use Rattle.vt_word_workers.proofs.StoreRooms.{always_ok, always_err}
 use Rattle.vt_pass.proofs.Idle.{machine_untouched, machine_spent}
 use Rattle.vt_pass.proofs.machine.FilteredMachinePassMachine.prepare.Goals as goal
 

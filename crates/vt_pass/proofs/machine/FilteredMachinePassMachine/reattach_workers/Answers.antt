@@ -1,7 +1,7 @@
 use Rattle.std.proofs.Common.{Ok, refl, sym, subst}
-use Rattle.vt_workers.specs.Jobs.{job_of}
-use Rattle.vt_requests.specs.Drawings.{drawing_of}
-use Rattle.vt_requests.specs.Passes.{Ends}
+use Rattle.vt_word_workers.specs.Jobs.{job_of}
+use Rattle.vt_word_workers.specs.Drawings.{drawing_of}
+use Rattle.vt_word_workers.specs.Passes.{Ends}
 use Rattle.vt_word_workers.specs.Kits.{kit_state, IsIdleKit}
 use Rattle.vt_word_workers.specs.KitPasses.{Begun, MayFinish, kit_before, kit_drawn}
 use Rattle.vt_pass.specs.WordMachines.{WordView}

@@ -1,5 +1,5 @@
 use Rattle.std.proofs.Common.{ℕ, ap, ◌∙◌, subst}
-use Rattle.vt_draw.specs.Lookups.{WordNote, place_in_tile}
+use Rattle.vt_pictures.specs.DrawLookups.{WordNote, place_in_tile}
 use Rattle.vt_replay_rows.specs.ReplayLookups.{ReplayLookupView, IsReplayLookup, IsTrueOf}
 use Rattle.vt_replay_rows.proofs.ReplayLookupLaws.{word_told}
 use Rattle.vt_replay_rows.proofs.replay_lookup.ReplayLookupLookup.texel.Goals as goal

@@ -4,7 +4,7 @@ use Rattle.vt_pages.specs.Pages.{levels_of, level_of, pages_of}
 use Rattle.vt_pages.specs.Lookups.{lookup}
 use Rattle.vt_pages.proofs.Parents.{level_below}
 use Rattle.vt_evict.specs.Missing.{is_mapped}
-use Rattle.vt_evict.specs.Views.{RecencyView}
+use Rattle.vt_plan.specs.Views.{RecencyView}
 use Rattle.vt_residency.specs.Residencies.{ResidencyView}
 use Rattle.vt_residency.proofs.Finding.{found_some}
 use Rattle.vt_residency.proofs.residency.Residency.find.Goals as goal

@@ -1,6 +1,6 @@
 use Rattle.std.proofs.Common.{◌≡◌, ℕ, Bool, List, length, map, sym, ap, subst, ◌∙◌, arith}
 use Rattle.vt_evict.specs.PlanTypes.batches.Planned.{Planned}
-use Rattle.vt_evict.specs.Views.{RecencyView}
+use Rattle.vt_plan.specs.Views.{RecencyView}
 use Rattle.vt_evict.specs.Batches.{IsLawful, IsSettled, read_entries}
 use Rattle.vt_residency.specs.Residencies.{has_not_come, is_over}
 use Rattle.vt_residency.proofs.UnderWay.{lawful_left, few_read}

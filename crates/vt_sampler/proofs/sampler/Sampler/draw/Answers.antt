@@ -1,4 +1,4 @@
-use Rattle.vt_draw.specs.Shots.{shot_row}
+use Rattle.vt_lookup.specs.Shots.{shot_row}
 use Rattle.vt_lookup.proofs.NearestNotes.{row_by_said}
 use Rattle.vt_lookup.specs.Notes.{IsNotedIn}
 use Rattle.vt_sampler.specs.Samplers.{row_at, version_at}

@@ -2,7 +2,7 @@ use Rattle.std.proofs.Common.{◌≡◌, ℕ, ◌*◌, ◌/◌, ◌≤◌, ◌<�
 use Rattle.std.specs.Prelude.{slice_index}
 use Rattle.std.specs.Vec.{with_items}
 use Rattle.std.proofs.lemmas.List.{with_items_is}
-use Rattle.vt_draw.specs.Shots.{shot_row}
+use Rattle.vt_lookup.specs.Shots.{shot_row}
 use Rattle.vt_lookup.specs.Evidence.{AreShown}
 use Rattle.vt_lookup.specs.Notes.{IsNotedIn, HasHeldMore}
 use Rattle.vt_sampler.specs.Samplers.{SamplerView, IsFor, own_count, row_length, row_in}

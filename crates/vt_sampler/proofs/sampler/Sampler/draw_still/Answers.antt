@@ -2,7 +2,7 @@ use Rattle.std.proofs.Common.{◌≡◌, ◌<◌, ◌*◌, ◌/◌, List, ◌∙
 use Rattle.std.specs.Prelude.{slice_index}
 use Rattle.std.specs.Vec.{with_items}
 use Rattle.std.proofs.lemmas.List.{with_items_is}
-use Rattle.vt_draw.specs.Shots.{shot_row, AreDrawn, pixels_in_rows}
+use Rattle.vt_lookup.specs.Shots.{shot_row, AreDrawn, pixels_in_rows}
 use Rattle.vt_sampler.specs.Notes.{IsTrueOf}
 use Rattle.vt_sampler.specs.Samplers.{SamplerView, IsFor, own_count, own_rows, row_length, row_in}
 use Rattle.vt_sampler.proofs.Sharing.{own_fits, own_full}

@@ -1,6 +1,6 @@
 use Rattle.std.proofs.Common.{ap, sym, ◌∙◌, subst}
-use Rattle.vt_workers.specs.Jobs.{job_of}
-use Rattle.vt_workers.specs.All.{AllReady}
+use Rattle.vt_machine.specs.Jobs.{job_of}
+use Rattle.vt_machine.specs.All.{AllReady}
 use Rattle.vt_steal.specs.RowTasks.{MayDrawShared}
 use Rattle.vt_steal.specs.SharingMachines.{SharingView}
 use Rattle.vt_steal.proofs.Idle.{detach_draws}

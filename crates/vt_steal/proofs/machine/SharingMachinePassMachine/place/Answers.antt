@@ -1,5 +1,5 @@
 use Rattle.std.proofs.Common.{ap, sym, ◌∙◌, subst}
-use Rattle.vt_streamer.specs.Views.{IsStreamerOf}
+use Rattle.vt_word_workers.specs.Views.{IsStreamerOf}
 use Rattle.vt_steal.specs.SharingMachines.{SharingView, IsIdleSharing}
 use Rattle.vt_steal.proofs.Idle.{machine_placed}
 use Rattle.vt_steal.proofs.machine.SharingMachinePassMachine.place.Goals as goal

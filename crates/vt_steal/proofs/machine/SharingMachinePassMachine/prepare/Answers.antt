@@ -1,6 +1,6 @@
 use Rattle.std.proofs.Common.{◌≡◌, ap, sym, ◌∙◌, subst}
-use Rattle.vt_word_workers.proofs.Rooms.{always_ok, always_err}
-use Rattle.vt_stream_kit.specs.StreamKits.{IsSameStream}
+use Rattle.vt_word_workers.proofs.StoreRooms.{always_ok, always_err}
+use Rattle.vt_word_workers.specs.StreamKits.{IsSameStream}
 use Rattle.vt_steal.specs.SharingMachines.{SharingView}
 use Rattle.vt_steal.proofs.Idle.{machine_untouched, machine_spent}
 use Rattle.vt_steal.proofs.machine.SharingMachinePassMachine.prepare.Goals as goal

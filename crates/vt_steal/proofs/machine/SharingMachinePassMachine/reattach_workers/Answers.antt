@@ -1,7 +1,7 @@
 use Rattle.std.proofs.Common.{Some, Ok, refl, sym, subst}
-use Rattle.vt_workers.specs.Jobs.{job_of}
+use Rattle.vt_machine.specs.Jobs.{job_of}
 use Rattle.vt_machine.specs.Passes.{Ends}
-use Rattle.vt_stream_kit.specs.StreamKits.{stream_before}
+use Rattle.vt_word_workers.specs.StreamKits.{stream_before}
 use Rattle.vt_steal.specs.SharingMachines.{SharingView, MayFinish, sharing_of, state_by, drawn_by, IsIdleSharing}
 use Rattle.vt_steal.proofs.Finishing.{finished, new_rows}
 use Rattle.vt_steal.proofs.machine.SharingMachinePassMachine.reattach_workers.Goals as goal

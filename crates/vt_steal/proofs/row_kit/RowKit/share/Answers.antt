@@ -1,7 +1,7 @@
 use Rattle.std.proofs.Common.{[], length, sym, ap, ◌∙◌, rules}
-use Rattle.vt_loaders.specs.PassViews.{pass_view, all_shares}
-use Rattle.vt_loaders.specs.Orders.{placed}
-use Rattle.vt_word_workers.proofs.Rooms.{on_ok}
+use Rattle.vt_load.specs.PassViews.{pass_view, all_shares}
+use Rattle.vt_load.specs.Orders.{placed}
+use Rattle.vt_word_workers.proofs.StoreRooms.{on_ok}
 use Rattle.vt_shared_rows.specs.Bags.{view_of}
 use Rattle.vt_shared_rows.proofs.Keepers.{refilled}
 use Rattle.vt_steal.proofs.Equipping.{equipped_same, kit_shared}

@@ -4,9 +4,9 @@ use Rattle.std.proofs.lemmas.List.{append-nil}
 use Rattle.std.proofs.lemmas.Result.{err_from_is_err_and}
 use Rattle.vt_outside.specs.Files.{gained}
 use Rattle.vt_store_commands.specs.commands.Gen.{shown_gen, expected_gen, gen_task}
-use Rattle.vt_files.specs.Effects.{folder_state}
-use Rattle.vt_command_base.proofs.Ending.{read_none, ends_done, ends_stopped}
-use Rattle.vt_command_base.proofs.Leaving.{left_writing, left_putting}
+use Rattle.vt_outside.specs.Effects.{folder_state}
+use Rattle.vt_command_inputs.proofs.Ending.{read_none, ends_done, ends_stopped}
+use Rattle.vt_command_inputs.proofs.Leaving.{left_writing, left_putting}
 use Rattle.vt_store_commands.proofs.commands.generate.generate.Goals as goal
 
 nothing_gained : (held : Option (List ℕ)) → held ≡ option_map (gained []) held

@@ -1,9 +1,9 @@
 use Rattle.std.proofs.Common.{◌<◌, [], Err, ap, ◌∙◌, inr, arith}
 use Rattle.std.proofs.lemmas.Result.{err_from_is_err_and}
 use Rattle.vt_outside.proofs.Refusing.{rose_later}
-use Rattle.vt_files.specs.Effects.{folder_state}
+use Rattle.vt_outside.specs.Effects.{folder_state}
 use Rattle.vt_store_commands.specs.commands.Gen.{made_file}
-use Rattle.vt_files.proofs.Writing.{unwritten, file_stopped, is_there}
+use Rattle.vt_outside.proofs.Writing.{unwritten, file_stopped, is_there}
 use Rattle.vt_store_commands.proofs.Making.{made_front, header_is, header_whole, header_part, row_whole, row_part}
 use Rattle.vt_store_commands.proofs.commands.generate.write_texture.Goals as goal
 

@@ -1,11 +1,11 @@
 use Rattle.std.proofs.Common.{[], ◌∷◌, Ok, Err, refl}
 use Rattle.std.proofs.lemmas.Result.{err_from_is_err_and}
-use Rattle.vt_files.specs.Effects.{folder_state, sink_state}
-use Rattle.vt_command_base.specs.Lines.{store_line}
-use Rattle.vt_command_base.specs.Inputs.{StoreInput, StoreContent}
+use Rattle.vt_outside.specs.Effects.{folder_state, sink_state}
+use Rattle.vt_command_inputs.specs.Lines.{store_line}
+use Rattle.vt_command_inputs.specs.Inputs.{StoreInput, StoreContent}
 use Rattle.vt_store_commands.specs.commands.Info.{shown_info, info_task}
-use Rattle.vt_command_base.proofs.Ending.{read_none, read_more, ends_refused, ends_done, ends_stopped}
-use Rattle.vt_command_base.proofs.Leaving.{left_text}
+use Rattle.vt_command_inputs.proofs.Ending.{read_none, read_more, ends_refused, ends_done, ends_stopped}
+use Rattle.vt_command_inputs.proofs.Leaving.{left_text}
 use Rattle.vt_store_commands.proofs.commands.info.info.Goals as goal
 
 pub returns-in_err-header : goal.returns-in_err-header

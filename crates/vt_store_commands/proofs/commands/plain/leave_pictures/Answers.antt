@@ -1,9 +1,9 @@
 use Rattle.std.proofs.Common.{ℕ, Ok, Err, refl, subst}
 use Rattle.std.proofs.lemmas.Result.{err_from_is_err_and}
-use Rattle.vt_files.specs.Effects.{folder_state, sink_state, folder_effect, sink_effect}
-use Rattle.vt_command_base.specs.Lines.{end_line}
-use Rattle.vt_files.specs.Expectations.{Puts}
-use Rattle.vt_command_base.proofs.Leaving.{unleft, left_writing, left_putting}
+use Rattle.vt_outside.specs.Effects.{folder_state, sink_state, folder_effect, sink_effect}
+use Rattle.vt_command_inputs.specs.Lines.{end_line}
+use Rattle.vt_outside.specs.Expectations.{Puts}
+use Rattle.vt_command_inputs.proofs.Leaving.{unleft, left_writing, left_putting}
 use Rattle.vt_store_commands.specs.SeenTextures.{seen_path}
 use Rattle.vt_store_commands.proofs.SeenTextures.{tile_some}
 use Rattle.vt_store_commands.proofs.SeenPictures.{levels_few, levels_seen, surface_is, writes_seen}

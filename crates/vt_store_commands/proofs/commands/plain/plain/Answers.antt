@@ -1,14 +1,14 @@
 use Rattle.std.proofs.Common.{[], ◌∷◌, Ok, Err, refl, length, subst}
 use Rattle.std.specs.Option.{IsSome}
 use Rattle.std.proofs.lemmas.Result.{err_from_is_err_and}
-use Rattle.vt_files.specs.Effects.{folder_state, sink_state, call_effect}
-use Rattle.vt_files.specs.Pictures.{expected_pictures}
-use Rattle.vt_command_base.specs.Inputs.{PathInput, TextureInput, PathContent, TextureContent}
-use Rattle.vt_command_base.specs.Lines.{end_line}
+use Rattle.vt_outside.specs.Effects.{folder_state, sink_state, call_effect}
+use Rattle.vt_plain_bilinear.specs.Pictures.{expected_pictures}
+use Rattle.vt_command_inputs.specs.Inputs.{PathInput, TextureInput, PathContent, TextureContent}
+use Rattle.vt_command_inputs.specs.Lines.{end_line}
 use Rattle.vt_store_commands.specs.commands.Plain.{shown_plain, plain_task}
 use Rattle.vt_store_commands.specs.Pictures.{plain_file}
 use Rattle.vt_store_commands.specs.SeenTextures.{seen_file}
-use Rattle.vt_command_base.proofs.Ending.{read_none, read_more, ends_refused, ends_done, ends_stopped}
+use Rattle.vt_command_inputs.proofs.Ending.{read_none, read_more, ends_refused, ends_done, ends_stopped}
 use Rattle.vt_store_commands.proofs.Drawing.{pictures_alike}
 use Rattle.vt_store_commands.proofs.SeenPictures.{leaves_alike}
 use Rattle.vt_store_commands.proofs.commands.plain.plain.Goals as goal

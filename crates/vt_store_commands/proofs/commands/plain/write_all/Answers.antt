@@ -1,7 +1,7 @@
 use Rattle.std.proofs.Common.{◌∙◌}
 use Rattle.std.proofs.lemmas.Result.{err_from_is_err_and}
-use Rattle.vt_files.specs.Effects.{folder_state}
-use Rattle.vt_files.proofs.Writing.{unwritten}
+use Rattle.vt_outside.specs.Effects.{folder_state}
+use Rattle.vt_outside.proofs.Writing.{unwritten}
 use Rattle.vt_store_commands.proofs.PlainFiles.{has_header}
 use Rattle.vt_store_commands.proofs.commands.plain.write_all.Goals as goal
 

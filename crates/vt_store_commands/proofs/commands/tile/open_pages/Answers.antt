@@ -1,6 +1,6 @@
 use Rattle.std.proofs.lemmas.Result.{err_from_is_err_and}
-use Rattle.vt_files.specs.Effects.{folder_state}
-use Rattle.vt_command_base.specs.Reads.{file_state, Closed}
+use Rattle.vt_outside.specs.Effects.{folder_state}
+use Rattle.vt_command_inputs.specs.Reads.{file_state, Closed}
 use Rattle.vt_store_commands.proofs.Tiling.{many_refused}
 use Rattle.vt_store_commands.proofs.commands.tile.open_pages.Goals as goal
 

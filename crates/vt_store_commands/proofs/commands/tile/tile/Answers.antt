@@ -4,15 +4,15 @@ use Rattle.std.proofs.lemmas.Result.{err_from_is_err_and}
 use Rattle.vt_pages.specs.Shape.{Shape}
 use Rattle.vt_ppm.specs.Strips.{texture_of}
 use Rattle.vt_store_commands.specs.commands.Tile.{shown_tile, tile_task, made_store, expected_store}
-use Rattle.vt_files.specs.Effects.{folder_state, sink_state}
-use Rattle.vt_command_base.specs.Lines.{store_line}
-use Rattle.vt_command_base.specs.Inputs.{TiledTexture, TextureContent, AreStrips}
-use Rattle.vt_command_base.specs.OpenWrites.{WritesMade}
-use Rattle.vt_command_base.specs.Reads.{file_state}
-use Rattle.vt_files.specs.Expectations.{Puts}
-use Rattle.vt_command_base.proofs.Ending.{read_none, read_more, ends_refused, ends_done, ends_stopped}
-use Rattle.vt_command_base.proofs.Leaving.{left_writing, left_putting}
-use Rattle.vt_command_base.proofs.OpenWriting.{read_first}
+use Rattle.vt_outside.specs.Effects.{folder_state, sink_state}
+use Rattle.vt_command_inputs.specs.Lines.{store_line}
+use Rattle.vt_command_inputs.specs.Inputs.{TiledTexture, TextureContent, AreStrips}
+use Rattle.vt_command_inputs.specs.OpenWrites.{WritesMade}
+use Rattle.vt_command_inputs.specs.Reads.{file_state}
+use Rattle.vt_outside.specs.Expectations.{Puts}
+use Rattle.vt_command_inputs.proofs.Ending.{read_none, read_more, ends_refused, ends_done, ends_stopped}
+use Rattle.vt_command_inputs.proofs.Leaving.{left_writing, left_putting}
+use Rattle.vt_command_inputs.proofs.OpenWriting.{read_first}
 use Rattle.vt_store_commands.proofs.Tiling.{texture_took, store_written, store_stopped}
 use Rattle.vt_store_commands.proofs.commands.tile.tile.Goals as goal
 

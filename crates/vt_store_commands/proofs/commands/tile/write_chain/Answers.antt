@@ -1,12 +1,12 @@
 use Rattle.std.proofs.Common.{◌≡◌, ◌⊎◌, ℕ, Err, ap, subst, arith, refl, inl}
 use Rattle.vt_pages.specs.Shape.{Shape}
-use Rattle.vt_files.specs.Effects.{folder_state}
+use Rattle.vt_outside.specs.Effects.{folder_state}
 use Rattle.vt_tiles.specs.Made.{HoldsMade, HoldsMadeFront}
 use Rattle.vt_ppm.specs.StripPlaces.{strips_of, strip_places}
-use Rattle.vt_command_base.specs.Inputs.{AreStrips}
-use Rattle.vt_command_base.specs.Reads.{file_state, Closed}
+use Rattle.vt_command_inputs.specs.Inputs.{AreStrips}
+use Rattle.vt_command_inputs.specs.Reads.{file_state, Closed}
 use Rattle.vt_store_commands.specs.commands.Tile.{made_store}
-use Rattle.vt_command_base.proofs.OpenWriting.{made_written, made_stopped}
+use Rattle.vt_command_inputs.proofs.OpenWriting.{made_written, made_stopped}
 use Rattle.vt_store_commands.proofs.Tiling.{strips_tried}
 use Rattle.vt_store_commands.proofs.commands.tile.write_chain.Goals as goal
 

@@ -1,11 +1,11 @@
 use Rattle.std.proofs.Common.{[], refl, inl, arith}
 use Rattle.vt_outside.specs.declared.answers.OutsideError.TheVariants.{NoMemory}
-use Rattle.vt_files.specs.Effects.{folder_state}
-use Rattle.vt_command_base.specs.Inputs.{AreStrips}
-use Rattle.vt_command_base.specs.Reads.{file_state, Closed}
+use Rattle.vt_outside.specs.Effects.{folder_state}
+use Rattle.vt_command_inputs.specs.Inputs.{AreStrips}
+use Rattle.vt_command_inputs.specs.Reads.{file_state, Closed}
 use Rattle.vt_store_commands.specs.commands.Tile.{made_store}
-use Rattle.vt_command_base.proofs.OpenWriting.{made_stopped}
-use Rattle.vt_command_base.proofs.Reading.{gains_none}
+use Rattle.vt_command_inputs.proofs.OpenWriting.{made_stopped}
+use Rattle.vt_command_inputs.proofs.Reading.{gains_none}
 use Rattle.vt_store_commands.proofs.Tiling.{no_strips}
 use Rattle.vt_store_commands.proofs.commands.tile.write_store.Goals as goal
 

@@ -1,8 +1,8 @@
 use Rattle.std.proofs.Common.{refl, ◌∙◌}
 use Rattle.std.proofs.lemmas.Result.{err_from_is_err_and}
-use Rattle.vt_files.specs.Effects.{folder_state, folder_effect}
-use Rattle.vt_command_base.specs.Reads.{file_state, Closed}
-use Rattle.vt_command_base.proofs.Opening.{narrow_refused, wide_refused}
+use Rattle.vt_outside.specs.Effects.{folder_state, folder_effect}
+use Rattle.vt_command_inputs.specs.Reads.{file_state, Closed}
+use Rattle.vt_command_inputs.proofs.Opening.{narrow_refused, wide_refused}
 use Rattle.vt_store_commands.proofs.commands.upgrade.open_narrow.Goals as goal
 
 pub returns-in_err-store-clause-refused : goal.returns-in_err-store-clause-refused

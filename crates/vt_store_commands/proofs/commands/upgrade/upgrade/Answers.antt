@@ -3,14 +3,14 @@ use Rattle.std.specs.Option.{unwrap_or}
 use Rattle.std.proofs.lemmas.Result.{err_from_is_err_and}
 use Rattle.vt_pages.specs.Shape.{Shape}
 use Rattle.vt_store_commands.specs.commands.Upgrade.{shown_upgrade, upgrade_task, expected_wide}
-use Rattle.vt_files.specs.Effects.{folder_state, sink_state, sink_effect}
-use Rattle.vt_command_base.specs.Lines.{store_line}
-use Rattle.vt_command_base.specs.Inputs.{NarrowStore, NarrowContent}
-use Rattle.vt_command_base.specs.Reads.{file_state}
-use Rattle.vt_files.specs.Expectations.{Puts}
-use Rattle.vt_command_base.proofs.Ending.{read_none, read_more, ends_refused, ends_done, ends_stopped}
-use Rattle.vt_command_base.proofs.Leaving.{left_writing, left_putting}
-use Rattle.vt_command_base.proofs.OpenWriting.{read_first}
+use Rattle.vt_outside.specs.Effects.{folder_state, sink_state, sink_effect}
+use Rattle.vt_command_inputs.specs.Lines.{store_line}
+use Rattle.vt_command_inputs.specs.Inputs.{NarrowStore, NarrowContent}
+use Rattle.vt_command_inputs.specs.Reads.{file_state}
+use Rattle.vt_outside.specs.Expectations.{Puts}
+use Rattle.vt_command_inputs.proofs.Ending.{read_none, read_more, ends_refused, ends_done, ends_stopped}
+use Rattle.vt_command_inputs.proofs.Leaving.{left_writing, left_putting}
+use Rattle.vt_command_inputs.proofs.OpenWriting.{read_first}
 use Rattle.vt_store_commands.proofs.Upgrading.{store_took, new_written, new_stopped}
 use Rattle.vt_store_commands.proofs.commands.upgrade.upgrade.Goals as goal
 

@@ -1,6 +1,6 @@
 use Rattle.std.proofs.Common.{Err, ap}
-use Rattle.vt_files.specs.Effects.{folder_state}
-use Rattle.vt_command_base.specs.Reads.{file_state, Closed}
+use Rattle.vt_outside.specs.Effects.{folder_state}
+use Rattle.vt_command_inputs.specs.Reads.{file_state, Closed}
 use Rattle.vt_store_commands.proofs.Upgrading.{wide_written, wide_stopped}
 use Rattle.vt_store_commands.proofs.commands.upgrade.write_wide.Goals as goal
 

@@ -1,6 +1,6 @@
 use Rattle.std.proofs.Common.{subst}
 use Rattle.std.specs.Prelude.{IfSome}
-use Rattle.vt_draw.specs.Lookups.{IsFinest}
+use Rattle.vt_pictures.specs.DrawLookups.{IsFinest}
 use Rattle.vt_swap.specs.Readers.{LookupView, IsSaidIn}
 use Rattle.vt_swap.proofs.Saying.{if_finest}
 use Rattle.vt_swap.proofs.lookup.SwapLookup.find_mapped.Goals as goal

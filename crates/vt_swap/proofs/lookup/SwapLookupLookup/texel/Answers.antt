@@ -1,7 +1,7 @@
 use Rattle.std.proofs.Common.{◌≡◌, ℕ, List, sym, ap, ◌∙◌, subst}
 use mathlib.Core.List.{IsPrefix}
 use Rattle.vt_pages.specs.Shape.{Shape}
-use Rattle.vt_draw.specs.Lookups.{place_in_tile}
+use Rattle.vt_pictures.specs.DrawLookups.{place_in_tile}
 use Rattle.vt_swap_steps.specs.LogTypes.records.LogRecord.{LogRecord}
 use Rattle.vt_swap.specs.Notes.{IsWord}
 use Rattle.vt_swap.specs.Readers.{LookupView}

@@ -1,7 +1,7 @@
 use Rattle.std.proofs.Common.{◌≡◌, ◌++◌, map, ap, sym, ◌∙◌, arith}
 use Rattle.std.specs.List.{concat, range_with_len}
 use Rattle.vt_swap_machine.specs.DrawKits.{drawn_row}
-use Rattle.vt_word_workers.proofs.Kits.{joined_more}
+use Rattle.vt_pass.proofs.Kits.{joined_more}
 use Rattle.vt_swap_machine.proofs.draw_kit.DrawKit.picture.Goals as goal
 
 pub loop-y-init : goal.loop-y-init

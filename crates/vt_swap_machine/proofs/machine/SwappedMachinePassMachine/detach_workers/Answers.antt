@@ -1,7 +1,7 @@
 use Rattle.std.proofs.Common.{Option, ap, sym, ◌∙◌, subst, refl}
-use Rattle.vt_loaders.specs.Queues.{IsOf}
-use Rattle.vt_machine.specs.Jobs.{job_of}
-use Rattle.vt_machine.specs.All.{AllReady}
+use Rattle.vt_load.specs.Queues.{IsOf}
+use Rattle.vt_loading.specs.Jobs.{job_of}
+use Rattle.vt_loading.specs.All.{AllReady}
 use Rattle.vt_swap_workers.specs.SwapTasks.{MayDraw, MayStream}
 use Rattle.vt_swap_machine.specs.SwapMachines.{SwapView, IsReadyBy}
 use Rattle.vt_swap_workers.specs.declared.workers.SwapFeeder.{SwapFeeder}

@@ -1,6 +1,6 @@
 use Rattle.std.proofs.Common.{◌≡◌, ap, sym, ◌∙◌, subst}
-use Rattle.vt_word_workers.proofs.Rooms.{always_ok, always_err}
-use Rattle.vt_stream_kit.specs.StreamKits.{IsSameStream}
+use Rattle.vt_loading.proofs.StoreRooms.{always_ok, always_err}
+use Rattle.vt_loading.specs.StreamKits.{IsSameStream}
 use Rattle.vt_swap_machine.specs.SwapMachines.{SwapView}
 use Rattle.vt_swap_machine.proofs.Idle.{machine_untouched, machine_spent}
 use Rattle.vt_swap_machine.proofs.machine.SwappedMachinePassMachine.prepare.Goals as goal

@@ -1,8 +1,8 @@
 use Rattle.std.proofs.Common.{Option, Some, sym, subst}
-use Rattle.vt_machine.specs.Jobs.{job_of}
-use Rattle.vt_machine.specs.Drawings.{drawing_of}
-use Rattle.vt_machine.specs.Passes.{Ends}
-use Rattle.vt_stream_kit.specs.StreamKits.{stream_before}
+use Rattle.vt_loading.specs.Jobs.{job_of}
+use Rattle.vt_loading.specs.Drawings.{drawing_of}
+use Rattle.vt_loading.specs.Passes.{Ends}
+use Rattle.vt_loading.specs.StreamKits.{stream_before}
 use Rattle.vt_swap_workers.specs.declared.workers.SwapFeeder.{SwapFeeder}
 use Rattle.vt_swap_machine.specs.SwapMachines.{SwapView, MayFinish, state_by, journal_by, drawn_by, IsIdleSwap, IsIdleBy}
 use Rattle.vt_swap_machine.proofs.Finishing.{at_none, finished}

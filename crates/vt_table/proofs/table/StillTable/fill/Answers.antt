@@ -1,6 +1,6 @@
 use Rattle.std.proofs.Common.{◌≡◌, ◌+◌, ◌*◌, ◌∙◌, ◌<◌, ◌≤◌, inl, inr, ap, sym, subst, ℕ, length, length-set, arith}
 use Rattle.std.proofs.lemmas.List.{with_items_is, get_or-set_same, get_or-set_other}
-use Rattle.vt_definitions.specs.Depths.{IsDepth, texel_length}
+use Rattle.vt_journal.specs.Depths.{IsDepth, texel_length}
 use Rattle.vt_journal.specs.Changes.{newest, IsFree}
 use Rattle.vt_journal.specs.Kept.{entry_of}
 use Rattle.vt_table.specs.Views.{TableView, IsTile, tile_of, filled_for}

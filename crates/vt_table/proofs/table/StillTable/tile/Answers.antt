@@ -1,7 +1,7 @@
 use Rattle.std.proofs.Common.{◌≡◌, ◌+◌, ◌<◌, ◌∙◌, ◌*◌, ap, sym, subst, ℕ, List, length, get_or, arith}
 use Rattle.std.specs.Prelude.{slice_range}
 use Rattle.std.proofs.lemmas.List.{get_or_read}
-use Rattle.vt_definitions.specs.Depths.{texel_length}
+use Rattle.vt_journal.specs.Depths.{texel_length}
 use Rattle.vt_journal.specs.Changes.{newest}
 use Rattle.vt_table.specs.Views.{TableView, IsMapped, tile_of}
 use Rattle.vt_table.proofs.Keeping.{tile_read}

@@ -1,6 +1,6 @@
 use Rattle.std.proofs.Common.{refl}
-use Rattle.vt_command_base.specs.Effects.{folder_state, folder_effect}
-use Rattle.vt_command_base.specs.Reads.{file_state, Closed}
+use Rattle.vt_command_inputs.specs.Effects.{folder_state, folder_effect}
+use Rattle.vt_command_inputs.specs.Reads.{file_state, Closed}
 use Rattle.vt_walk_commands.proofs.commands.replay.read_beside.Goals as goal
 
 pub returns-in-Err-clause-refused : goal.returns-in-Err-clause-refused

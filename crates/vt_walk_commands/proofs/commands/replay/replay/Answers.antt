@@ -1,10 +1,10 @@
 use Rattle.std.proofs.Common.{ℕ, List, sym, subst}
 use Rattle.std.proofs.lemmas.Result.{err_from_is_err_and}
 use Rattle.vt_tiles.specs.StoreViews.{StoreView}
-use Rattle.vt_command_base.specs.Effects.{folder_state, sink_state}
-use Rattle.vt_words.specs.Replay.{shown_replay}
-use Rattle.vt_command_base.specs.Inputs.{JournalInput, TextContent}
-use Rattle.vt_command_base.specs.Reads.{file_state, OpensStore, Took}
+use Rattle.vt_command_inputs.specs.Effects.{folder_state, sink_state}
+use Rattle.vt_command_words.specs.Replay.{shown_replay}
+use Rattle.vt_command_inputs.specs.Inputs.{JournalInput, TextContent}
+use Rattle.vt_command_inputs.specs.Reads.{file_state, OpensStore, Took}
 use Rattle.vt_walk_commands.proofs.Replaying.{HasInputs, path_refused, store_refused, journal_refused, answer_refused, answer_untold, answer_told}
 use Rattle.vt_walk_commands.proofs.commands.replay.replay.Goals as goal
 

@@ -1,6 +1,6 @@
 use Rattle.std.proofs.Common.{◌≡◌, None, sym, subst}
 use Rattle.vt_pages.specs.Shape.{Shape}
-use Rattle.vt_pages.specs.Pages.{refusal_of}
+use Rattle.vt_tiles.specs.Pages.{refusal_of}
 use Rattle.vt_walk_commands.proofs.Trying.{store_written}
 use Rattle.vt_walk_commands.proofs.commands.trial.make_store.Goals as goal
 

@@ -1,9 +1,9 @@
 use Rattle.std.proofs.Common.{Err, sym, subst}
-use Rattle.vt_words.specs.Trial.{shown_trial}
-use Rattle.vt_command_base.specs.Effects.{sink_effect}
-use Rattle.vt_command_base.specs.CommandSpecs.{EndsBy}
+use Rattle.vt_command_words.specs.Trial.{shown_trial}
+use Rattle.vt_command_inputs.specs.Effects.{sink_effect}
+use Rattle.vt_command_inputs.specs.CommandSpecs.{EndsBy}
 use Rattle.vt_walk_commands.specs.commands.Trial.{trial_spec, beside}
-use Rattle.vt_command_base.specs.declared.refusal.Refusal.{Refusal}
+use Rattle.vt_command_inputs.specs.declared.refusal.Refusal.{Refusal}
 use Rattle.vt_walk_commands.proofs.Trying.{tried, tried_in_part}
 use Rattle.vt_walk_commands.proofs.commands.trial.trial.Goals as goal
 

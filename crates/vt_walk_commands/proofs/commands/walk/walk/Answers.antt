@@ -1,8 +1,8 @@
 use Rattle.std.proofs.lemmas.Result.{err_from_is_err_and}
-use Rattle.vt_command_base.specs.Effects.{folder_state, sink_state}
-use Rattle.vt_words.specs.Walk.{shown_walk}
+use Rattle.vt_command_inputs.specs.Effects.{folder_state, sink_state}
+use Rattle.vt_command_words.specs.Walk.{shown_walk}
 use Rattle.vt_walk_commands.specs.Machines.{kind_of}
-use Rattle.vt_command_base.specs.Reads.{file_state, Closed}
+use Rattle.vt_command_inputs.specs.Reads.{file_state, Closed}
 use Rattle.vt_walk_commands.specs.commands.Walk.{WalkOf}
 use Rattle.vt_walk_commands.proofs.Walking.{HasInputs, path_refused, store_refused, many_refused, not_many, names_apart, walk_ends}
 use Rattle.vt_walk_commands.proofs.commands.walk.walk.Goals as goal

@@ -1,9 +1,9 @@
 use Rattle.std.proofs.Common.{◌<◌, List, length, refl, sym, subst}
 use Rattle.std.specs.Prelude.{All}
 use Rattle.vt_pages.specs.Pages.{pages_of}
-use Rattle.vt_tiles.specs.Format.{tile_length}
-use Rattle.vt_plan.specs.declared.batches.Planned.{Planned}
-use Rattle.vt_word_workers.specs.RoundKits.{IsSetUp, IsAsked}
+use Rattle.vt_load.specs.Format.{tile_length}
+use Rattle.vt_loading.specs.PlanTypes.batches.Planned.{Planned}
+use Rattle.vt_loading.specs.RoundKits.{IsSetUp, IsAsked}
 use Rattle.vt_word_workers.specs.Kits.{KitView, IsPreparedKit}
 use Rattle.vt_word_workers.proofs.Rooms.{pages_inside, once_asked}
 use Rattle.vt_word_workers.proofs.kit.WordKit.ask.Goals as goal

@@ -1,7 +1,7 @@
 use Rattle.std.proofs.Common.{◌<◌, ◌^◌, length, sym, subst, refl, ap, ◌∙◌}
 use Rattle.std.specs.List.{refill}
-use Rattle.vt_requests.specs.Jobs.{job_of}
-use Rattle.vt_requests.specs.MachineTypes.crew.PassReport.{PassReport}
+use Rattle.vt_loading.specs.Jobs.{job_of}
+use Rattle.vt_loading.specs.MachineTypes.crew.PassReport.{PassReport}
 use Rattle.vt_word_workers.specs.declared.workers.WordStreamer.{WordStreamer}
 use Rattle.vt_word_samplers.specs.DealtRows.{AreSamplersOf, counted_together}
 use Rattle.vt_word_workers.specs.Kits.{KitView}
@@ -11,7 +11,7 @@ use Rattle.vt_word_workers.proofs.Finishing.{tasks_back, goes_on, ran}
 use Rattle.vt_word_workers.proofs.kit.WordKit.finish.Goals as goal
 use Rattle.vt_queue.specs.declared.items.Request.{Request}
 use Rattle.vt_queue.specs.declared.queue.QueuePass.{QueuePass}
-use Rattle.vt_word_workers.specs.RoundKits.{AreEmptied}
+use Rattle.vt_loading.specs.RoundKits.{AreEmptied}
 use Rattle.vt_word_workers.proofs.Finished.{emptied}
 
 pub tell-rows-requires-clause-samplers : goal.tell-rows-requires-clause-samplers

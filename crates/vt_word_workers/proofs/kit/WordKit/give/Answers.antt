@@ -1,7 +1,7 @@
 use Rattle.std.proofs.Common.{List, length, ap, sym, ◌∙◌, subst}
 use Rattle.std.specs.List.{refill}
 use Rattle.vt_word_samplers.specs.GraceTypes.views.WriterView.{WriterView}
-use Rattle.vt_requests.proofs.Lent.{refilled}
+use Rattle.vt_loading.proofs.Lent.{refilled}
 use Rattle.vt_word_samplers.specs.WordSamplers.{WordSampler}
 use Rattle.vt_word_samplers.specs.GivenPasses.{AreSameSamplers}
 use Rattle.vt_word_workers.specs.Kits.{KitView, IsReadyKit}

@@ -1,9 +1,10 @@
 use Rattle.std.proofs.Common.{ℕ, ◌≤◌, List, refl, ap, sym, subst, arith}
 use Rattle.std.specs.Prelude.{All}
 use Rattle.vt_outside.proofs.Refusing.{none_made}
-use Rattle.vt_tiles.specs.StoreViews.{StoreView}
+use Rattle.vt_load.specs.StoreViews.{StoreView}
 use Rattle.vt_word_workers.specs.Kits.{KitView}
-use Rattle.vt_word_workers.proofs.Rooms.{same_none, same_lists, same_back, stores_back, always_ok, on_ok}
+use Rattle.vt_word_workers.proofs.Rooms.{same_lists}
+use Rattle.vt_loading.proofs.StoreRooms.{same_none, same_back, stores_back, always_ok, on_ok}
 use Rattle.vt_word_workers.proofs.kit.WordKit.make_room.Goals as goal
 
 pub returns-in_err-self-inside : goal.returns-in_err-self-inside

@@ -2,9 +2,9 @@ use Rattle.std.proofs.Common.{◌≡◌, ℕ, List, length, refl, sym, subst, ru
 use Rattle.std.specs.Prelude.{All}
 use Rattle.std.proofs.lemmas.List.Elements.{All-nil}
 use Rattle.vt_outside.specs.Lists.{ListView}
-use Rattle.vt_tiles.specs.Format.{tile_length}
+use Rattle.vt_load.specs.Format.{tile_length}
 use Rattle.vt_word_samplers.specs.DealtRows.{AreSamplersOf}
-use Rattle.vt_word_workers.proofs.Kits.{told_first}
+use Rattle.vt_loading.proofs.FirstStores.{told_first}
 use Rattle.vt_word_workers.proofs.kit.WordKit.new.Goals as goal
 
 pub returns-in-Ok : goal.returns-in-Ok

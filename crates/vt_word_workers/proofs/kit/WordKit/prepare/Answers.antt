@@ -1,14 +1,15 @@
 use Rattle.std.proofs.Common.{ℕ, ◌≤◌, arith, subst, sym}
 use Rattle.vt_definitions.specs.Depths.{IsDepth}
 use Rattle.vt_pages.specs.Shape.{Shape}
-use Rattle.vt_requests.specs.Crews.{IsCrew}
+use Rattle.vt_loading.specs.Crews.{IsCrew}
 use Rattle.std.specs.Prelude.{All}
-use Rattle.vt_tiles.specs.Format.{tile_length}
-use Rattle.vt_requests.specs.Sizes.{AreSized}
-use Rattle.vt_word_samplers.specs.Reports.{IsBlank}
-use Rattle.vt_word_workers.specs.RoundKits.{RoundKitView, IsSetUp}
+use Rattle.vt_load.specs.Format.{tile_length}
+use Rattle.vt_loading.specs.Sizes.{AreSized}
+use Rattle.vt_loading.specs.BlankReports.{IsBlank}
+use Rattle.vt_loading.specs.RoundKits.{RoundKitView, IsSetUp}
 use Rattle.vt_word_workers.specs.Kits.{KitView}
-use Rattle.vt_word_workers.proofs.Rooms.{on_ok, prepared_with, same_asked, room_asked}
+use Rattle.vt_word_workers.proofs.Rooms.{prepared_with, same_asked, room_asked}
+use Rattle.vt_loading.proofs.StoreRooms.{on_ok}
 use Rattle.vt_word_workers.proofs.kit.WordKit.prepare.Goals as goal
 
 pub reserve-requires : goal.reserve-requires

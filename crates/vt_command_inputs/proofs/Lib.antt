@@ -1,0 +1,13 @@
+pub use Rattle.vt_outside.proofs.Writing
+pub mod Reading
+pub mod Opening
+pub mod Seeing
+pub mod Textures
+pub mod OpenWriting
+pub mod Contents
+pub mod Excluded
+pub mod OneContent
+pub mod Ending
+pub mod TaskSpecs
+pub mod Leaving
+pub mod Putting

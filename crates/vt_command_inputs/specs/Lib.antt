@@ -1,0 +1,12 @@
+pub use Rattle.vt_outside.specs.Effects
+pub use Rattle.vt_text.specs.Places
+pub mod Lines
+pub mod Flaws
+pub mod Refusals
+pub mod Inputs
+pub mod HeldInputs
+pub mod Causes
+pub mod Reads
+pub mod OpenWrites
+pub mod Tasks
+pub mod CommandSpecs

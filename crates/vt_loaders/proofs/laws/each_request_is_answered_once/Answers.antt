@@ -1,5 +1,0 @@
-use Rattle.vt_loaders.proofs.Gathering.{each_once}
-use Rattle.vt_loaders.proofs.laws.each_request_is_answered_once.Goals as goal
-
-pub returns : goal.returns
-returns g c = each_once g.F.File

@@ -1,0 +1,19 @@
+pub use Rattle.vt_requests.specs.All
+pub use Rattle.vt_requests.specs.BatchRounds
+pub use Rattle.vt_requests.specs.BlankReports
+pub use Rattle.vt_requests.specs.Crews
+pub use Rattle.vt_requests.specs.Drawings
+pub use Rattle.vt_requests.specs.Jobs
+pub use Rattle.vt_requests.specs.MachineTypes
+pub use Rattle.vt_requests.specs.Machines
+pub use Rattle.vt_requests.specs.Outcomes
+pub use Rattle.vt_requests.specs.Passes
+pub use Rattle.vt_requests.specs.PlanTypes
+pub use Rattle.vt_requests.specs.Requests
+pub use Rattle.vt_requests.specs.RowOrders
+pub use Rattle.vt_requests.specs.Sizes
+pub use Rattle.vt_requests.specs.declared as RequestsTypes
+pub mod StreamKits
+pub mod StreamBacks
+pub mod RoundKits
+pub mod SameStores

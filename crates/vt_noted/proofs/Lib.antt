@@ -1,4 +1,0 @@
-pub mod Brought
-pub mod Handed
-pub mod Replayed
-pub mod Growing

@@ -1,2 +1,0 @@
-pub mod JoinedPieces
-pub mod Refused

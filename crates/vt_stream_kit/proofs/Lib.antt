@@ -1,2 +1,0 @@
-pub mod StreamRooms
-pub mod StreamEnd

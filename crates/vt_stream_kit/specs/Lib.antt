@@ -1,2 +1,0 @@
-pub mod StreamKits
-pub mod StreamBacks

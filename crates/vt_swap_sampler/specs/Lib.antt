@@ -1,2 +1,0 @@
-pub use Rattle.vt_sampler.specs.Samplers
-pub mod Entered

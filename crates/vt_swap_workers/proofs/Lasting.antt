@@ -1,0 +1,143 @@
+-- What lasts while the results of a batch are streamed one after another.
+use Rattle.std.proofs.Common.{◌≡◌, ◌≢◌, ℕ, zero, suc, ◌+◌, ◌<◌, ◌≤◌, inl, inr, ◌⊎◌, Bool, true, false, List, [], ◌∷◌, ◌++◌, length, set, get_or, Option, Some, None, sym, ap, ◌∙◌, subst, append_assoc, length-append, arith}
+use Rattle.std.specs.Prelude.{slice_get, slice_index_or, All, Contains}
+use Rattle.std.proofs.lemmas.List.{append-nil, length-set, get_or-set_same, get_or-set_other}
+use Rattle.std.proofs.lemmas.List.Elements.{All-push, Contains-append_left, Contains-append_right}
+use Rattle.std.proofs.lemmas.Bool.{cases_lt, false≢true}
+use Rattle.std.proofs.lemmas.Grind.{flat_map-append}
+use Rattle.std.proofs.lemmas.Option.{get_or_from_slice_get, slice_get_within, slice_get-get_or}
+use Rattle.vt_pages.specs.Shape.{Shape}
+use Rattle.vt_journal.specs.declared.changes.Change.{Change}
+use Rattle.vt_journal.specs.declared.changes.Event.{Event}
+use Rattle.vt_journal.specs.Changes.{newest}
+use Rattle.vt_journal.specs.JournalText.{changes_of}
+use Rattle.vt_journal.proofs.EventLines.{changes_of-append}
+use Rattle.vt_evict.specs.PlanTypes.batches.Planned.{Planned}
+use Rattle.vt_queue.specs.declared.items.Loaded.{Loaded}
+use Rattle.vt_streaming.specs.Readings.{is_lost}
+use Rattle.vt_streaming.specs.Outcomes.{IsEntryFor, IsBatchFor, group_if}
+use Rattle.vt_streaming.proofs.Streaming.{entry_stays}
+use Rattle.vt_streaming.specs.BatchRounds.{result_group, result_events, AreLossesOf}
+use Rattle.vt_streaming.specs.RequestsTypes.report.StreamReport.{StreamReport}
+use Rattle.vt_streaming.specs.BlankReports.{IsBlank}
+use Rattle.vt_swap.specs.LogTypes.records.LogRecord.{LogRecord}
+use Rattle.vt_swap.specs.LogTypes.records.LogRecord.TheVariants.{Filled}
+use Rattle.vt_swap.specs.Streamers.{StreamerView}
+use Rattle.vt_swap_workers.specs.Brought.{HasStreamed, HasApplied, HasKept, AreFillsOf, IsUnderWay}
+use Rattle.vt_swap_workers.proofs.Taking.{flag_was, flag_set}
+
+no_fills : (d texels : ℕ) (batch : List Planned) (results : List Loaded) → AreFillsOf d texels batch results []
+no_fills d texels batch results n frame page words e = absurd (nothing_there n (Filled frame page words) e) where
+  nothing_there : (k : ℕ) (r : LogRecord) → slice_get [] k ≡ Some r → ⊥
+  nothing_there k r at = cc
+
+-- fills of some results are fills of more
+fills_on : (d texels : ℕ) (batch : List Planned) (xs ys : List Loaded) (log : List LogRecord) → ((x : Loaded) → Contains xs x → Contains ys x)
+    → AreFillsOf d texels batch xs log → AreFillsOf d texels batch ys log
+fills_on d texels batch xs ys log on fills n frame page words at =
+    let fill = fills n frame page words at in
+    record { result = fill.result; among = on fill.result fill.among; read = fill.read; page_is = fill.page_is; words_of = fill.words_of }
+
+fills_both : (d texels : ℕ) (batch : List Planned) (results : List Loaded) (rs ss : List LogRecord) → AreFillsOf d texels batch results rs
+    → AreFillsOf d texels batch results ss → AreFillsOf d texels batch results (rs ++ ss)
+fills_both d texels batch results [] ss one two n frame page words at = two n frame page words at
+fills_both d texels batch results (r ∷ rs) ss one two zero frame page words at = one zero frame page words at
+fills_both d texels batch results (r ∷ rs) ss one two (suc n) frame page words at =
+    fills_both d texels batch results rs ss (λ k f p w is. one (suc k) f p w is) two n frame page words at
+
+-- one result more was applied
+streamed_more : (d texels : ℕ) (batch : List Planned) (results : List Loaded) (x : Loaded) (u v w : StreamerView) → HasStreamed d texels batch results u v
+    → HasApplied d texels batch x v w → HasStreamed d texels batch (results ++ x ∷ []) u w
+streamed_more d texels batch results x u v w one two =
+    let events : result_events batch (results ++ x ∷ []) ≡ result_events batch results ++ result_group batch x =
+    flat_map-append (result_group batch) results (x ∷ []) ∙ ap (λ (l : List Event). result_events batch results ++ l) (append-nil (result_group batch x)) in
+    record {
+      journal =
+          two.journal ∙ ap (λ (js : List Change). js ++ changes_of (result_group batch x)) one.journal
+          ∙ append_assoc u.journal (changes_of (result_events batch results)) (changes_of (result_group batch x))
+          ∙ ap (λ (js : List Change). u.journal ++ js)
+          (sym (changes_of-append (result_events batch results) (result_group batch x)) ∙ ap changes_of (sym events));
+      added = one.added ++ two.added;
+      log = two.log ∙ ap (λ (l : List LogRecord). l ++ two.added) one.log ∙ append_assoc u.log one.added two.added;
+      fills =
+          fills_both d texels batch (results ++ x ∷ []) one.added two.added
+          (fills_on d texels batch results (results ++ x ∷ []) one.added (λ y has. Contains-append_left results (x ∷ []) y has) one.fills)
+          (fills_on d texels batch (x ∷ []) (results ++ x ∷ []) two.added (λ y has. Contains-append_right results (x ∷ []) y has) two.fills);
+    }
+
+-- two entries at different places do not share a page or a frame
+entries_apart : (s : Shape) (frames : ℕ) (m : ℕ → Option ℕ) (batch : List Planned) → IsBatchFor s frames m batch → (i j : ℕ) (e f : Planned) → i ≢ j
+    → slice_get batch i ≡ Some e → slice_get batch j ≡ Some f → (e.page ≢ f.page) × (e.frame ≢ f.frame)
+entries_apart s frames m batch lawful i j e f other at there = order (cases_lt i j) (cases_lt j i) where
+  ahead : (a b : ℕ) (x y : Planned) → a < b → slice_get batch a ≡ Some x → slice_get batch b ≡ Some y → (x.page ≢ y.page) × (x.frame ≢ y.frame)
+  ahead a b x y low is_x is_y = subst (λ (z : Planned × Planned). (z.0.page ≢ z.1.page) × (z.0.frame ≢ z.1.frame))
+      (λ i. (get_or_from_slice_get batch a x x is_x i, get_or_from_slice_get batch b y x is_y i))
+      (lawful.apart a b x low (slice_get_within batch b y is_y))
+
+  order : (i < j) ⊎ (j ≤ i) → (j < i) ⊎ (i ≤ j) → (e.page ≢ f.page) × (e.frame ≢ f.frame)
+  order (inl low) any = ahead i j e f low at there
+  order (inr least) (inl high) = let h = ahead j i f e high there at in (λ p. h.0 (sym p), λ p. h.1 (sym p))
+  order (inr least) (inr most) = absurd (other (omega (arith, least, most)))
+
+module _ (d texels : ℕ) (s : Shape) (frames : ℕ) (batch : List Planned) (start : StreamerView) (lawful : IsBatchFor s frames (newest start.journal) batch) where
+  pub begun : (r : StreamReport) → IsBlank (length batch) r → IsUnderWay d texels s frames batch start start r.events.elements r
+  begun r blank = subst (λ (results : List Loaded). IsUnderWay d texels s frames batch start start r.events.elements
+      (record r { results = record r.results { elements = results } }))
+      (sym blank.no_results) (record {
+        streamed = record {
+          journal = sym (append-nil start.journal);
+          added = [];
+          log = sym (append-nil start.log);
+          fills = no_fills d texels batch [];
+        };
+        events = sym (append-nil r.events.elements);
+        ahead = λ k e is free. subst (IsEntryFor s frames (newest start.journal)) (get_or_from_slice_get batch k e e is)
+            (lawful.each k e (slice_get_within batch k e is));
+        room = let a = blank.events_room in omega (arith, a);
+      })
+
+  pub under_way : (v w : StreamerView) (before : List Event) (r q : StreamReport) (x : Loaded) → IsUnderWay d texels s frames batch start v before r
+      → get_or r.taken.elements x.request.ticket false ≡ false → x.request.ticket < length batch → length r.taken.elements ≡ length batch
+      → HasApplied d texels batch x v w → q.events.elements ≡ r.events.elements ++ result_group batch x → HasKept x r q
+      → IsUnderWay d texels s frames batch start w before q
+  under_way v w before r q x h new inside flags applied noted kept =
+      let t : ℕ = x.request.ticket in
+      let e : Planned = get_or batch t (record { page = 0; frame = 0; victim = None }) in
+      let at : slice_get batch t ≡ Some e = slice_get-get_or batch t (record { page = 0; frame = 0; victim = None }) inside in
+      let lost : Bool = is_lost x.outcome in
+      let entry = h.ahead t e at new in
+      let results : List Loaded = r.results.elements in
+      let events : result_events batch (results ++ x ∷ []) ≡ result_events batch results ++ result_group batch x =
+      flat_map-append (result_group batch) results (x ∷ []) ∙ ap (λ (l : List Event). result_events batch results ++ l) (append-nil (result_group batch x)) in
+      record {
+        streamed = subst (λ (l : List Loaded). HasStreamed d texels batch l start w) (sym kept.results)
+            (streamed_more d texels batch results x start v w h.streamed applied);
+        events = noted ∙ ap (λ (l : List Event). l ++ result_group batch x) h.events
+            ∙ append_assoc before (result_events batch results) (result_group batch x)
+            ∙ ap (λ (l : List Event). before ++ l) (sym events) ∙ ap (λ (l : List Loaded). before ++ result_events batch l) (sym kept.results);
+        ahead = λ k f is free.
+            let still : get_or (set r.taken.elements t true) k false ≡ false = ap (λ (l : List Bool). get_or l k false) (sym kept.taken) ∙ free in
+            let other : t ≢ k = λ same. false≢true (sym still ∙ ap (λ (n : ℕ). get_or (set r.taken.elements t true) n false) (sym same)
+            ∙ flag_set r.taken.elements t (omega (arith, inside, flags))) in
+            let was : get_or r.taken.elements k false ≡ false = flag_was r.taken.elements t k still in
+            subst (λ (js : List Change). IsEntryFor s frames (newest js) f)
+            (ap (λ (o : List Event). v.journal ++ changes_of o) (ap (λ o. group_if o lost) (sym at)) ∙ sym applied.journal)
+            (entry_stays s frames v.journal e f lost entry (h.ahead k f is was) (entries_apart s frames (newest start.journal) batch lawful t k e f other at is));
+        room =
+            let a = h.room in
+            let b = kept.events_room in
+            let c = ap length kept.results ∙ length-append results (x ∷ []) in
+            omega (arith, a, b, c);
+      }
+
+-- the losses that were told, after one more
+pub losses_more : (batch : List Planned) (results : List Loaded) (losses taken : List Bool) (x : Loaded) → AreLossesOf batch results losses
+    → All (λ y. slice_index_or taken y.request.ticket false ≡ true) results → get_or taken x.request.ticket false ≡ false
+    → x.request.ticket < length batch → AreLossesOf batch (results ++ x ∷ []) (set losses x.request.ticket (is_lost x.outcome))
+losses_more batch results losses taken x h marked new inside = let t = x.request.ticket in let lost = is_lost x.outcome in let told = h.told in record {
+  told = length-set losses t lost ∙ h.told;
+  each = All-push (λ (y : Loaded). get_or (set losses t lost) y.request.ticket true ≡ is_lost y.outcome) results x
+      (λ k d low. get_or-set_other losses t (get_or results k d).request.ticket lost true
+      (λ same. false≢true (sym new ∙ ap (λ (n : ℕ). get_or taken n false) (sym same) ∙ marked k d low)) ∙ h.each k d low)
+      (get_or-set_same losses t lost true (omega (arith, told, inside)));
+}

@@ -1,4 +1,0 @@
-use Rattle.vt_workers.proofs.work.load_and_stream.Goals as goal
-
-pub work-requires : goal.work-requires
-work-requires g c = c.requires.streamer
