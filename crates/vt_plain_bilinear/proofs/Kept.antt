@@ -1,10 +1,10 @@
 -- What a look-up served stays served: it goes on to say what it says.
-use Rattle.std.proofs.Common.{◌≡◌, ℕ, sym, ◌∙◌, subst}
+use Rattle.std.proofs.Common.{◌≡◌, ℕ, ◌∙◌, subst}
 use Rattle.vt_pages.specs.Shape.{Shape}
 use Rattle.vt_draw.specs.declared.lookups.Found.{Found}
 use Rattle.vt_pages.specs.Pages.{texel_page}
 use Rattle.vt_draw.specs.Lookups.{Note, WordNote, IsFinest}
-use Rattle.vt_draw.proofs.DrawnPixels.{finest_kept, finest_moved}
+use Rattle.vt_draw.proofs.DrawnPixels.{finest_kept}
 use Rattle.vt_plain_bilinear.specs.declared.served.Memo.{Memo}
 use Rattle.vt_blend.specs.declared.corners.Corners.{Corners}
 use Rattle.vt_blend.specs.declared.blends.Texels.{Texels}
@@ -55,8 +55,3 @@ served_later s v w says tells later k x y word found same said told finest read 
   finest = finest_kept s v says later (texel_page s k x y) found said finest;
   read = subst (λ (n : ℕ). later (WordNote n found.slot (coarser_place s k found.level x y) word)) same (told _ read);
 }
-
--- what a look-up found for a page it has found, by the names that it had before
-pub finest_before : (s t : Shape) (v w : ℕ) (says : Note → Type 0) (p : ℕ) (found : Found) → t ≡ s → w ≡ v → IsFinest t w says p found
-    → IsFinest s v says p found
-finest_before s t v w says p found shape version h = finest_moved t s w v says says p found (sym shape) (sym version) (λ note is. is) h

@@ -1,6 +1,6 @@
 -- A blend, where the pages of its texels are mapped: it is that of the plain picture.
-use Rattle.std.proofs.Common.{◌≡◌, ℕ, ◌+◌, ◌-◌, ◌*◌, ◌/◌, ◌^◌, ◌<◌, ◌≤◌, zero, suc, Bool, true, false, [], ◌∷◌, ◌++◌, get_or, Option, refl, sym, ap, ◌∙◌, zero-add, add-one, arith}
-use Rattle.std.specs.Prelude.{unwrap_or, IsSome, sum_by, ◌==◌, if◌then◌else◌}
+use Rattle.std.proofs.Common.{◌≡◌, ℕ, ◌+◌, ◌-◌, ◌*◌, ◌/◌, ◌^◌, ◌<◌, ◌≤◌, zero, suc, [], ◌∷◌, ◌++◌, get_or, Option, refl, sym, ap, ◌∙◌, zero-add, add-one, arith}
+use Rattle.std.specs.Prelude.{unwrap_or, IsSome, sum_by}
 use Rattle.std.specs.List.{range_with_len}
 use Rattle.std.proofs.Math.Nat.{div-one}
 use Rattle.std.proofs.lemmas.List.Sums.{get_or-le-sum_by, sum_by-append}
@@ -12,7 +12,7 @@ use Rattle.vt_pages.specs.Pages.{pages_of, level_of, root_of, texel_page, IsWith
 use Rattle.vt_pages.specs.Laws.{IsInside}
 use Rattle.vt_pages.proofs.Lines.{texel_is_page}
 use Rattle.vt_camera.specs.Rows.{RowView, row_level}
-use Rattle.vt_draw.specs.Shots.{shot_row, run_of, wants_in_rows}
+use Rattle.vt_draw.specs.Shots.{shot_row, wants_in_rows}
 use Rattle.vt_draw.proofs.Counts.{run-own}
 use Rattle.vt_draw.proofs.Drawn.{range_more}
 use Rattle.vt_pictures.specs.Changes.{Table}

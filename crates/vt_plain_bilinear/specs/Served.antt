@@ -7,7 +7,6 @@ use Rattle.vt_pages.specs.Pages.{texel_page}
 use Rattle.vt_camera.specs.Rows.{RowView, row_level}
 use Rattle.vt_draw.specs.declared.lookups.Found.{Found}
 use Rattle.vt_draw.specs.Lookups.{Note, WordNote, IsFinest, place_in_tile}
-use Rattle.vt_draw.specs.Shots.{run_of}
 use Rattle.vt_blend.specs.declared.corners.Corners.{Corners}
 use Rattle.vt_blend.specs.declared.blends.Texels.{Texels}
 use Rattle.vt_blend.specs.declared.counting.Pages.{Pages}
@@ -67,6 +66,12 @@ texels_wanting s row n p = sum_by (λ x. times_among (pages_about s (row_level r
 -- each page's count was raised by how many texels of the first n pixels of a row are in the page
 abbrev pub AreTexelsCounted : Shape → RowView → ℕ → List ℕ → List ℕ → Type 0
 AreTexelsCounted s row n old new = (p : ℕ) → p < length new → slice_index new p ≡ slice_index old p + texels_wanting s row n p
+
+-- four pages are one
+pub record AreOne (p : Pages) : Type 0 where
+  pub second : p.second ≡ p.first
+  pub third : p.third ≡ p.first
+  pub fourth : p.fourth ≡ p.first
 
 -- what was found for each of the pages that were asked for last
 pub record IsMemo (s : Shape) (version : ℕ) (says : Note → Type 0) (memo : Memo) : Type 0 where

@@ -4,13 +4,13 @@ ghost use Rattle.std.specs.Prelude.{◌≡◌, ℕ, ◌+◌, ◌*◌, ◌<◌, �
 ghost use Rattle.vt_definitions.specs.Depths.{IsDepth, texel_length};
 ghost use Rattle.vt_definitions.specs.Sides.{side};
 ghost use Rattle.vt_pages.specs.Pages.{levels_of, pages_of, IsWithinLimits};
-ghost use Rattle.vt_draw.specs.Lookups.{Note, IsFinest};
+ghost use Rattle.vt_draw.specs.Lookups.{Note};
 ghost use Rattle.vt_draw.specs.Shots.{paged_surface, shot_row, run_of};
 ghost use Rattle.vt_blend.specs.Corners.{AreInside};
 ghost use Rattle.vt_plain_bilinear.specs.Served.{GoesOn, AreServed, pages_about, IsMemo, AreBlended, AreTexelsCounted};
 ghost use Rattle.vt_blend.specs.Counting.{times_among};
 
-use crate::served::{Memo, Seen, found_by, pages_about, words_apart, words_by};
+use crate::served::{Memo, are_one, memo_of, pages_about, words_on};
 use vt_blend::{
     Corners, Texels, add_texels, blend_words, corners_of, count_apart, count_together, weights_of,
 };
@@ -59,8 +59,8 @@ pub fn draw_row_blend<K: Lookup>(
     }
 }
 
-// The words at the corners of a pixel of a level, and the page that was seen last of those in which all four of a pixel stand, with
-// the length of its run; and counts the texels.
+// The words at the corners of a pixel of a level, and counts its texels; and the page of the last pixel whose texels are all on one
+// page, with the length of its run.
 #[inline(always)]
 fn take_texels<K: Lookup>(
     lookup: &mut K,
@@ -68,39 +68,34 @@ fn take_texels<K: Lookup>(
     memo: &mut Memo,
     level: u32,
     at: &Corners,
-    seen: Seen,
+    last: u32,
     run: u32,
     counts: &mut [u32],
-) -> (Texels, Seen, u32)
+) -> (Texels, u32, u32)
     requires limits { IsWithinLimits geometry.now }
     requires shape { K.shape lookup.old ≡ geometry.now }
     requires known { IsMemo geometry.now (K.version lookup.old) (K.says lookup.old) memo.old }
     requires level { level < levels_of geometry.now }
     requires inside { AreInside (side geometry.now.width level) (side geometry.now.height level) at.now }
-    requires before { IsFinest geometry.now (K.version lookup.old) (K.says lookup.old) seen.page seen.found }
-    requires page { seen.page < pages_of geometry.now }
+    requires page { last < pages_of geometry.now }
     requires pages { length counts.old ≡ pages_of geometry.now }
-    requires room { (p : ℕ) → p < length counts.old → slice_index counts.old p + run_of seen.page run p + 4 < 2 ^ 32 }
+    requires room { (p : ℕ) → p < length counts.old → slice_index counts.old p + run_of last run p + 4 < 2 ^ 32 }
     ensures served { AreServed geometry.now (K.version lookup.old) (K.says lookup.new) level at.now result.0 }
-    ensures finest { IsFinest geometry.now (K.version lookup.old) (K.says lookup.new) result.1.page result.1.found }
-    ensures page { result.1.page < pages_of geometry.now }
+    ensures page { result.1 < pages_of geometry.now }
     ensures known { IsMemo geometry.now (K.version lookup.old) (K.says lookup.new) memo.new }
-    ensures counted { (p : ℕ) → slice_index counts.new p + run_of result.1.page result.2 p
-        ≡ slice_index counts.old p + run_of seen.page run p + times_among (pages_about geometry.now level at.now) p }
+    ensures counted { (p : ℕ) → slice_index counts.new p + run_of result.1 result.2 p
+        ≡ slice_index counts.old p + run_of last run p + times_among (pages_about geometry.now level at.now) p }
     ensures on { GoesOn (K.shape lookup.old) (K.version lookup.old) (K.says lookup.old) (K.kept lookup.old)
         (K.shape lookup.new) (K.version lookup.new) (K.says lookup.new) (K.kept lookup.new) }
 {
     let pages = pages_about(geometry, level, at);
-    let page = pages.first;
-    if pages.second == page && pages.third == page && pages.fourth == page {
-        let found = found_by(lookup, geometry, memo, seen, page);
-        let texels = words_by(lookup, geometry, level, at, &found, &found, &found, &found);
-        let run = count_together(counts, seen.page, run, page);
-        (texels, Seen { page, found }, run)
+    let texels = words_on(lookup, geometry, memo, level, at, &pages);
+    if are_one(&pages) {
+        let run = count_together(counts, last, run, pages.first);
+        (texels, pages.first, run)
     } else {
         count_apart(counts, &pages);
-        let texels = words_apart(lookup, geometry, memo, level, at, &pages);
-        (texels, seen, run)
+        (texels, last, run)
     }
 }
 
@@ -133,21 +128,15 @@ fn blend_pixels<K: Lookup, const DEPTH: u32>(
     let (wide, high) = geometry.level_size(level);
     let at = corners_of(&row, level, wide, high, 0);
     let page = geometry.page_of_texel(level, at.column, at.line);
-    let found = lookup.find(page);
-    let mut seen = Seen { page, found };
-    let mut memo = Memo {
-        first: seen,
-        second: seen,
-        third: seen,
-        fourth: seen,
-    };
+    let mut memo = memo_of(lookup, geometry, page);
+    let mut last = page;
     let mut run = 0;
     for x in 0..columns {
         let at = corners_of(&row, level, wide, high, x);
-        let (texels, last, length) = take_texels(
-            lookup, geometry, &mut memo, level, &at, seen, run, counts,
+        let (texels, page, length) = take_texels(
+            lookup, geometry, &mut memo, level, &at, last, run, counts,
         );
-        seen = last;
+        last = page;
         run = length;
         put_word::<DEPTH>(
             out,
@@ -155,5 +144,5 @@ fn blend_pixels<K: Lookup, const DEPTH: u32>(
             blend_words::<DEPTH>(&weights_of(&at), &texels),
         );
     }
-    add_texels(counts, seen.page, run);
+    add_texels(counts, last, run);
 }

@@ -1,12 +1,13 @@
 //! The words of the four texels of a pixel, as a look-up of pages serves them.
 
 ghost use Rattle.std.specs.Prelude.{◌≡◌, ◌<◌};
+ghost use Rattle.std.specs.Bool.{MatchBool};
 ghost use Rattle.vt_pages.specs.Pages.{pages_of, levels_of, texel_page, IsWithinLimits};
 ghost use Rattle.vt_pages.specs.Laws.{IsInside};
 ghost use Rattle.vt_definitions.specs.Sides.{side};
 ghost use Rattle.vt_draw.specs.Lookups.{WordNote, IsFinest};
 ghost use Rattle.vt_blend.specs.Corners.{AreInside};
-ghost use Rattle.vt_plain_bilinear.specs.Served.{GoesOn, coarser_place, AreServed, pages_about, IsMemo};
+ghost use Rattle.vt_plain_bilinear.specs.Served.{GoesOn, coarser_place, AreServed, pages_about, AreOne, IsMemo};
 
 use vt_blend::{Corners, Pages, Texels};
 use vt_draw::{Found, Lookup};
@@ -48,9 +49,9 @@ pub(crate) fn pages_about(geometry: &Geometry, level: u32, at: &Corners) -> Page
     }
 }
 
-// What a look-up finds for a page, which it is asked only where the page is not one of those that it was asked for last.
+// What a look-up finds for a page that is not the one it was asked for last. It is asked only where the page is none of the last four.
 #[inline(never)]
-fn recall<K: Lookup>(lookup: &mut K, geometry: &Geometry, memo: &mut Memo, page: u32) -> Found
+fn recall_older<K: Lookup>(lookup: &mut K, geometry: &Geometry, memo: &mut Memo, page: u32) -> Found
     requires shape { K.shape lookup.old ≡ geometry.now }
     requires known { IsMemo geometry.now (K.version lookup.old) (K.says lookup.old) memo.old }
     requires inside { page < pages_of geometry.now }
@@ -59,9 +60,6 @@ fn recall<K: Lookup>(lookup: &mut K, geometry: &Geometry, memo: &mut Memo, page:
     ensures on { GoesOn (K.shape lookup.old) (K.version lookup.old) (K.says lookup.old) (K.kept lookup.old)
         (K.shape lookup.new) (K.version lookup.new) (K.says lookup.new) (K.kept lookup.new) }
 {
-    if memo.first.page == page {
-        return memo.first.found;
-    }
     if memo.second.page == page {
         return memo.second.found;
     }
@@ -81,29 +79,31 @@ fn recall<K: Lookup>(lookup: &mut K, geometry: &Geometry, memo: &mut Memo, page:
     found
 }
 
-// What a look-up finds for a page, given what it found for the page of the pixel before.
+// What a look-up finds for a page: most pixels want the page that it was asked for last.
 #[inline(always)]
-pub(crate) fn found_by<K: Lookup>(
-    lookup: &mut K,
-    geometry: &Geometry,
-    memo: &mut Memo,
-    seen: Seen,
-    page: u32,
-) -> Found
+fn recall<K: Lookup>(lookup: &mut K, geometry: &Geometry, memo: &mut Memo, page: u32) -> Found
     requires shape { K.shape lookup.old ≡ geometry.now }
     requires known { IsMemo geometry.now (K.version lookup.old) (K.says lookup.old) memo.old }
-    requires before { IsFinest geometry.now (K.version lookup.old) (K.says lookup.old) seen.page seen.found }
     requires inside { page < pages_of geometry.now }
     ensures finest { IsFinest geometry.now (K.version lookup.old) (K.says lookup.new) page result }
     ensures known { IsMemo geometry.now (K.version lookup.old) (K.says lookup.new) memo.new }
     ensures on { GoesOn (K.shape lookup.old) (K.version lookup.old) (K.says lookup.old) (K.kept lookup.old)
         (K.shape lookup.new) (K.version lookup.new) (K.says lookup.new) (K.kept lookup.new) }
 {
-    if page == seen.page {
-        seen.found
+    if memo.first.page == page {
+        memo.first.found
     } else {
-        recall(lookup, geometry, memo, page)
+        recall_older(lookup, geometry, memo, page)
     }
+}
+
+// Whether four pages are one.
+#[inline(always)]
+pub(crate) fn are_one(pages: &Pages) -> bool
+    ensures { MatchBool result (AreOne pages.now) (AreOne pages.now → ⊥) }
+{
+    let page = pages.first;
+    pages.second == page && pages.third == page && pages.fourth == page
 }
 
 // The word of the texel in a column and a line of a level, in the page that was found for the texel's.
@@ -207,6 +207,39 @@ pub(crate) fn words_apart<K: Lookup>(
     )
 }
 
+// The words at some corners of a level, whose pages are given, each of the finest mapped page of the line of its own page.
+#[inline(always)]
+pub(crate) fn words_on<K: Lookup>(
+    lookup: &mut K,
+    geometry: &Geometry,
+    memo: &mut Memo,
+    level: u32,
+    at: &Corners,
+    pages: &Pages,
+) -> Texels
+    requires limits { IsWithinLimits geometry.now }
+    requires shape { K.shape lookup.old ≡ geometry.now }
+    requires known { IsMemo geometry.now (K.version lookup.old) (K.says lookup.old) memo.old }
+    requires level { level < levels_of geometry.now }
+    requires inside { AreInside (side geometry.now.width level) (side geometry.now.height level) at.now }
+    requires pages { pages.now ≡ pages_about geometry.now level at.now }
+    requires first { pages.now.first < pages_of geometry.now }
+    requires second { pages.now.second < pages_of geometry.now }
+    requires third { pages.now.third < pages_of geometry.now }
+    requires fourth { pages.now.fourth < pages_of geometry.now }
+    ensures served { AreServed geometry.now (K.version lookup.old) (K.says lookup.new) level at.now result }
+    ensures known { IsMemo geometry.now (K.version lookup.old) (K.says lookup.new) memo.new }
+    ensures on { GoesOn (K.shape lookup.old) (K.version lookup.old) (K.says lookup.old) (K.kept lookup.old)
+        (K.shape lookup.new) (K.version lookup.new) (K.says lookup.new) (K.kept lookup.new) }
+{
+    if are_one(pages) {
+        let found = recall(lookup, geometry, memo, pages.first);
+        words_by(lookup, geometry, level, at, &found, &found, &found, &found)
+    } else {
+        words_apart(lookup, geometry, memo, level, at, pages)
+    }
+}
+
 /// The words at some corners of a level, each of the finest mapped page of the line of its own page, and the page of the first.
 #[inline(always)]
 pub fn words_about<K: Lookup>(
@@ -228,15 +261,8 @@ pub fn words_about<K: Lookup>(
         (K.shape lookup.new) (K.version lookup.new) (K.says lookup.new) (K.kept lookup.new) }
 {
     let pages = pages_about(geometry, level, at);
-    let page = pages.first;
-    if pages.second == page && pages.third == page && pages.fourth == page {
-        let found = recall(lookup, geometry, memo, page);
-        let texels = words_by(lookup, geometry, level, at, &found, &found, &found, &found);
-        (texels, page)
-    } else {
-        let texels = words_apart(lookup, geometry, memo, level, at, &pages);
-        (texels, page)
-    }
+    let texels = words_on(lookup, geometry, memo, level, at, &pages);
+    (texels, pages.first)
 }
 
 /// What a look-up finds for a page, as all that it was asked for.

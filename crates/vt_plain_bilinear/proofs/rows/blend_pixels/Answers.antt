@@ -2,37 +2,28 @@ use Rattle.std.proofs.Common.{◌≡◌, ℕ, ◌+◌, ◌<◌, subst, sym, ap, 
 use Rattle.std.specs.Prelude.{slice_index}
 use Rattle.vt_definitions.specs.Depths.{texel_bytes}
 use Rattle.vt_camera.specs.Rows.{row_level}
-use Rattle.vt_draw.specs.Lookups.{IsFinest}
 use Rattle.vt_draw.proofs.Counts.{run-none}
 use Rattle.vt_blend.specs.Corners.{corners_of}
 use Rattle.vt_plain_bilinear.specs.Served.{pages_about, texels_wanting, IsMemo, AreServed, IsBlended}
 use Rattle.vt_blend.specs.Counting.{times_among}
 use Rattle.vt_plain_bilinear.specs.BlendPlain.{wanting-none, wanting-more}
 use Rattle.vt_plain_bilinear.proofs.Counts.{run_fits, last_fits}
-use Rattle.vt_plain_bilinear.proofs.Kept.{goes_on, finest_before}
+use Rattle.vt_plain_bilinear.proofs.Kept.{goes_on}
 use Rattle.vt_plain_bilinear.proofs.DrawnBlends.{blended_here, blended-more}
 use Rattle.vt_plain_bilinear.proofs.rows.blend_pixels.Goals as goal
 
 pub loop-x-init : goal.loop-x-init
-loop-x-init g c =
-    let s = c.args.geometry.now in
-    let find = c.find-found in
-    let page = c.page_of_texel-page.result in
-    let finest : IsFinest s (g.K.Lookup.version c.args.lookup.now) (g.K.Lookup.says find.new.self) page find.result =
-    finest_before s (g.K.Lookup.shape find.new.self) (g.K.Lookup.version c.args.lookup.now) (g.K.Lookup.version find.new.self)
-    (g.K.Lookup.says find.new.self) page find.result (find.ensures.shape ∙ c.requires.shape) find.ensures.version find.ensures.finest in
-    record {
-      on = record { shape = find.ensures.shape; version = find.ensures.version; said = find.ensures.said; kept = find.ensures.kept };
-      known = record { first = finest; second = finest; third = finest; fourth = finest };
-      finest = finest;
-      drawn = λ i none. absurd (omega (arith, none));
-      inside = c.page_of_texel-page.ensures.inside;
-      counted = λ p. omega (arith, run-none page p, wanting-none s c.args.row p);
-    }
+loop-x-init g c = record {
+  on = c.memo_of-memo.ensures.on;
+  known = c.memo_of-memo.ensures.known;
+  drawn = λ i none. absurd (omega (arith, none));
+  inside = c.page_of_texel-page.ensures.inside;
+  counted = λ p. omega (arith, run-none c.page_of_texel-page.result p, wanting-none c.args.geometry.now c.args.row p);
+}
 
-pub take_texels-length-requires-clause-room : goal.take_texels-length-requires-clause-room
-take_texels-length-requires-clause-room g c = λ p below.
-    run_fits c.args.geometry.now c.args.row c.loop-x.x c.args.columns c.loop-x.seen.page c.loop-x.run p c.args.counts.now c.loop-x.counts
+pub take_texels-page-requires-clause-room : goal.take_texels-page-requires-clause-room
+take_texels-page-requires-clause-room g c = λ p below.
+    run_fits c.args.geometry.now c.args.row c.loop-x.x c.args.columns c.loop-x.last c.loop-x.run p c.args.counts.now c.loop-x.counts
     (omega arith) (subst (λ (n : ℕ). p < n) c.loop-x.auto.counts below) c.loop-x.invariant.counted c.requires.room
 
 pub loop-x-preserved : goal.loop-x-preserved
@@ -44,11 +35,10 @@ loop-x-preserved g c =
     let v = g.K.Lookup.version c.args.lookup.now in
     let level = c.level-level.result in
     let at = c.corners_of-at-in-loop-x in
-    let taken = c.take_texels-length in
+    let taken = c.take_texels-page in
     let later = g.K.Lookup.says taken.new.lookup in
     let version : g.K.Lookup.version c.loop-x.lookup ≡ v = c.loop-x.invariant.on.version in
     let M : ℕ → Type 0 = λ n. IsMemo s n later taken.new.memo in
-    let F : ℕ → Type 0 = λ n. IsFinest s n later taken.result.1.page taken.result.1.found in
     let S : ℕ → Type 0 = λ n. AreServed s n later level at.result taken.result.0 in
     let here : IsBlended s d v later row x (texel_bytes d c.put_word.new.bytes x) =
     blended_here s d v later row x level c.blend_words.result at.result c.weights_of.result taken.result.0
@@ -57,7 +47,6 @@ loop-x-preserved g c =
     record {
       on = goes_on c.loop-x.invariant.on taken.ensures.on;
       known = subst M version taken.ensures.known;
-      finest = subst F version taken.ensures.finest;
       drawn = blended-more s d v (g.K.Lookup.says c.loop-x.lookup) later row x c.loop-x.out c.put_word.new.bytes taken.ensures.on.said
           c.put_word.ensures.kept here c.loop-x.invariant.drawn;
       inside = taken.ensures.page;
@@ -69,8 +58,8 @@ loop-x-preserved g c =
 
 pub add_texels-requires-clause-room : goal.add_texels-requires-clause-room
 add_texels-requires-clause-room g c =
-    last_fits c.args.geometry.now c.args.row c.loop-x.x c.args.columns c.loop-x.seen.page c.loop-x.run c.args.counts.now c.loop-x.counts
-    (omega arith) (subst (λ (n : ℕ). c.loop-x.seen.page < n) (sym c.requires.pages) c.loop-x.invariant.inside) c.loop-x.invariant.counted
+    last_fits c.args.geometry.now c.args.row c.loop-x.x c.args.columns c.loop-x.last c.loop-x.run c.args.counts.now c.loop-x.counts
+    (omega arith) (subst (λ (n : ℕ). c.loop-x.last < n) (sym c.requires.pages) c.loop-x.invariant.inside) c.loop-x.invariant.counted
     c.requires.room
 
 pub returns-clause-drawn : goal.returns-clause-drawn

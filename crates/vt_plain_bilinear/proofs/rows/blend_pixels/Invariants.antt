@@ -1,6 +1,5 @@
 use Rattle.std.proofs.Common.{◌≡◌, ℕ, ◌+◌, ◌<◌, slice_index}
 use Rattle.vt_pages.specs.Pages.{pages_of}
-use Rattle.vt_draw.specs.Lookups.{IsFinest}
 use Rattle.vt_definitions.specs.Depths.{texel_bytes}
 use Rattle.vt_draw.specs.Shots.{run_of}
 use Rattle.vt_plain_bilinear.specs.Served.{GoesOn, IsMemo, IsBlended, texels_wanting}
@@ -12,9 +11,8 @@ invariant-loop-x g l = record {
   on : GoesOn (g.K.Lookup.shape l.fn.lookup) (g.K.Lookup.version l.fn.lookup) (g.K.Lookup.says l.fn.lookup) (g.K.Lookup.kept l.fn.lookup)
       (g.K.Lookup.shape l.lookup) (g.K.Lookup.version l.lookup) (g.K.Lookup.says l.lookup) (g.K.Lookup.kept l.lookup);
   known : IsMemo l.geometry (g.K.Lookup.version l.fn.lookup) (g.K.Lookup.says l.lookup) l.memo;
-  finest : IsFinest l.geometry (g.K.Lookup.version l.fn.lookup) (g.K.Lookup.says l.lookup) l.seen.page l.seen.found;
   drawn : (i : ℕ) → i < l.x → IsBlended l.geometry g.row.DEPTH (g.K.Lookup.version l.fn.lookup) (g.K.Lookup.says l.lookup) l.row i
       (texel_bytes g.row.DEPTH l.out i);
-  inside : l.seen.page < pages_of l.geometry;
-  counted : (p : ℕ) → slice_index l.counts p + run_of l.seen.page l.run p ≡ slice_index l.fn.counts p + texels_wanting l.geometry l.row l.x p;
+  inside : l.last < pages_of l.geometry;
+  counted : (p : ℕ) → slice_index l.counts p + run_of l.last l.run p ≡ slice_index l.fn.counts p + texels_wanting l.geometry l.row l.x p;
 }
