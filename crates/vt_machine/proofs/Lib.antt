@@ -19,3 +19,4 @@ pub mod OneRead
 pub mod AnyOrder
 pub mod Halves
 pub mod Lent
+pub mod Ready

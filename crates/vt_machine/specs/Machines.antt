@@ -1,10 +1,11 @@
 -- What a machine is to its callers.
-use Rattle.std.specs.Prelude.{◌≡◌, ℕ, Option, None, List, [], ◌∷◌, map, length, All}
+use Rattle.std.specs.Prelude.{◌≡◌, ◌⊎◌, ℕ, Option, None, List, [], ◌∷◌, map, length, All}
 use Rattle.vt_outside.specs.declared.outside.File.{Ghosts as FileMeanings}
 use Rattle.vt_pages.specs.Shape.{Shape}
 use Rattle.vt_pictures.specs.Paths.{PathView}
 use Rattle.vt_pictures.specs.JournalTypes.changes.Change.{Change}
 use Rattle.vt_tiles.specs.StoreViews.{StoreView}
+use Rattle.vt_evict.specs.PlanTypes.batches.Planned.{Planned}
 use Rattle.vt_machine.specs.declared.crew.Crew.{Crew}
 use Rattle.vt_machine.specs.Requests.{FileState}
 
@@ -44,6 +45,10 @@ files_of g stores = map (λ store. file_state g store.file) stores
 abbrev pub told_by : {F : Type 0} → FileMeanings F → List (StoreView F) → Option (List ℕ)
 told_by g [] = None
 told_by g (store ∷ stores) = g.bytes store.file
+
+-- a machine is between its passes, or one is prepared, for whatever batch
+abbrev pub IsIdleOrReady : Type 0 → (List Planned → Type 0) → Type 0
+IsIdleOrReady idle ready = idle ⊎ ((batch : List Planned) × ready batch)
 
 -- there is a store for each loader, each is cut in this way and has samples of so many bytes, and all tell the same bytes, or none does
 pub record AreStoresFor {F : Type 0} (g : FileMeanings F) (s : Shape) (d loaders : ℕ) (stores : List (StoreView F)) : Type 0 where

@@ -14,7 +14,7 @@ ghost use Rattle.vt_pictures.specs.Scenes.{Scene};
 ghost use Rattle.vt_machine.specs.Drawings.{Drawing};
 ghost use Rattle.vt_machine.specs.Jobs.{Job, job_of};
 ghost use Rattle.vt_machine.specs.Crews.{IsCrew, AreFrames};
-ghost use Rattle.vt_machine.specs.Machines.{MachineState, setup_of, files_of, told_by, AreStoresFor};
+ghost use Rattle.vt_machine.specs.Machines.{MachineState, setup_of, files_of, told_by, AreStoresFor, IsIdleOrReady};
 ghost use Rattle.vt_machine.specs.Passes.{Begins, MayPlace, with_placed, MayPrepare, IsUntouched, IsSpent, MapsRoot, IsJobFor, Ends, MapsNeeded};
 ghost use Rattle.vt_machine.specs.All.{AllReady, AllDid};
 ghost use Rattle.vt_pictures.specs.JournalTypes.changes.RowLine.{RowLine};
@@ -38,6 +38,9 @@ use vt_tiles::Stores;
 /// and the journal of the page table can be asked for. A machine that was refused memory by `prepare` or `run` can only
 /// be ended. Where the files of the loaders do not tell their bytes or the places that they were asked, clauses on
 /// these say nothing.
+///
+/// Its calls `make`, `place`, `run` and `end` may wait for others. `prepare` waits for nobody: what it puts, it puts
+/// into queues that are new and have room for it.
 pub trait PassMachine: Sized {
     /// What the loaders read.
     type File: File + Send;
@@ -249,9 +252,9 @@ pub trait PassMachine: Sized {
         self.reattach_workers(rt, loaders, samplers, streamer, shot, batch, gate)
     }
 
-    /// The journal of the page table.
+    /// The journal of the page table, also once a pass is prepared.
     fn journal(&self) -> &Journal
-        requires { is_idle self.now }
+        requires { IsIdleOrReady (is_idle self.now) (is_ready self.now) }
         ensures { result.now.changes ≡ (state self.now).journal };
 
     /// How many pixels of the last pass's picture need each page.

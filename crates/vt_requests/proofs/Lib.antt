@@ -1,5 +1,6 @@
 pub use Rattle.vt_machine.proofs.Lent
 pub use Rattle.vt_machine.proofs.NearestNotes
+pub use Rattle.vt_machine.proofs.Ready
 pub use Rattle.vt_machine.proofs.Streaming
 pub mod Entries
 pub mod Asking

@@ -1,4 +1,5 @@
 pub use Rattle.vt_loading.proofs.Lent as MachineLent
+pub use Rattle.vt_loading.proofs.Ready
 pub use Rattle.vt_loading.proofs.StoreRooms
 pub use Rattle.vt_word_samplers.proofs.Growing
 pub use Rattle.vt_word_samplers.proofs.Replayed
