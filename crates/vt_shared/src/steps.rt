@@ -65,14 +65,10 @@ pub(crate) fn put_page(
     ensures refused { OnErr result (streamer.new.writer.journal ≡ streamer.old.writer.journal) }
     ensures contents { OnErr result (streamer.new.writer.contents ≡ streamer.old.writer.contents) }
 {
-    if let Err(waiting) = streamer.try_free(words, frame) {
-        return Err(waiting);
-    }
+    streamer.try_free(words, frame)?;
     streamer.fill(words, frame, page, tile);
-    match streamer.try_publish(words, Change::Map { page, frame }) {
-        Ok(_) => Ok(()),
-        Err(waiting) => Err(waiting),
-    }
+    streamer.try_publish(words, Change::Map { page, frame })?;
+    Ok(())
 }
 
 /// Takes a page out of its frame.
@@ -97,8 +93,6 @@ pub(crate) fn take_page(
     ensures refused { OnErr result (streamer.new.writer.journal ≡ streamer.old.writer.journal) }
     ensures contents { OnErr result (streamer.new.writer.contents ≡ streamer.old.writer.contents) }
 {
-    match streamer.try_publish(words, Change::Unmap { page, frame }) {
-        Ok(_) => Ok(()),
-        Err(waiting) => Err(waiting),
-    }
+    streamer.try_publish(words, Change::Unmap { page, frame })?;
+    Ok(())
 }

@@ -1,63 +1,73 @@
-use Rattle.std.proofs.Common.{inr, ap, ◌∙◌}
+use Rattle.std.proofs.Common.{inl, inr, ap, ◌∙◌}
+use Rattle.vt_outside.proofs.Refusing.{handed_on}
 use Rattle.vt_pages.specs.Shape.{Shape}
 use Rattle.vt_grace.specs.declared.views.WriterView.{WriterView}
 use Rattle.vt_streamer.specs.Fills.{words_in}
 use Rattle.vt_shared.proofs.Handing.{given_same, given_mapped}
-use Rattle.vt_shared.proofs.Keeping.{HasSame, same_both, same_looked, same_filled, bank_awaited, was_left, has_mapped, written_none, written_one}
+use Rattle.vt_shared.proofs.Keeping.{HasSame, same_none, same_both, same_looked, same_filled, bank_awaited, frame_awaited, was_left, has_mapped, written_none, written_one}
 use Rattle.vt_shared.proofs.Tiles.{are_bytes}
 use Rattle.vt_shared.proofs.steps.put_page.Goals as goal
 
-pub returns-in-Ok-clause-given : goal.returns-in-Ok-clause-given
-returns-in-Ok-clause-given c =
+pub returns-clause-given : goal.returns-clause-given
+returns-clause-given c =
     let v = c.args.streamer.now in
     let w = c.try_free.new.self in
     let x = c.fill.new.self in
     let left : HasSame v w = same_looked v w c.try_free.ensures.looked c.try_free.ensures.rest in
     let same : HasSame v x = same_both v w x left (same_filled w x c.fill.ensures.rest) in
     given_mapped c.args.words.now.sizes c.args.depth v x c.try_publish.new.self c.args.page c.args.frame c.args.tile.now same c.fill.ensures.of.seen
-    (c.fill.ensures.content ∙ ap (λ (s : Shape). words_in s c.args.tile.now) left.kept.shape) c.in-Ok.ensures.published c.try_publish.ensures.shape c.requires.of.sound.contents c.requires.tile
+    (c.fill.ensures.content ∙ ap (λ (s : Shape). words_in s c.args.tile.now) left.kept.shape) c.in_ok-try_publish.ensures.published c.try_publish.ensures.shape c.requires.of.sound.contents c.requires.tile
     (are_bytes _ c.type_inv.tile) c.requires.given
 
-pub returns-in-Ok-clause-mapped : goal.returns-in-Ok-clause-mapped
-returns-in-Ok-clause-mapped c =
+pub returns-clause-mapped : goal.returns-clause-mapped
+returns-clause-mapped c =
     let v = c.args.streamer.now in
     let w = c.try_free.new.self in
     let x = c.fill.new.self in
     let left : HasSame v w = same_looked v w c.try_free.ensures.looked c.try_free.ensures.rest in
     let same : HasSame v x = same_both v w x left (same_filled w x c.fill.ensures.rest) in
     has_mapped c.args.words.now.sizes v x c.try_publish.new.self c.args.page c.args.frame c.args.tile.now
-    (was_left v w c.args.frame c.try_free.ensures.looked c.in_default.ensures.may) same c.fill.ensures.of.seen
-    (c.fill.ensures.content ∙ ap (λ (s : Shape). words_in s c.args.tile.now) left.kept.shape) c.in-Ok.ensures.published
+    (was_left v w c.args.frame c.try_free.ensures.looked c.in_ok-try_free.ensures.may) same c.fill.ensures.of.seen
+    (c.fill.ensures.content ∙ ap (λ (s : Shape). words_in s c.args.tile.now) left.kept.shape) c.in_ok-try_publish.ensures.published
 
-pub returns-in-Err-try_publish-clause-given : goal.returns-in-Err-try_publish-clause-given
-returns-in-Err-try_publish-clause-given c =
+pub returns-in_err-try_publish-clause-given : goal.returns-in_err-try_publish-clause-given
+returns-in_err-try_publish-clause-given c =
     let v = c.args.streamer.now in
     let w = c.try_free.new.self in
     let x = c.fill.new.self in
     let same : HasSame v x = same_both v w x (same_looked v w c.try_free.ensures.looked c.try_free.ensures.rest) (same_filled w x c.fill.ensures.rest) in
     given_same c.args.depth v c.try_publish.new.self (same_both v x c.try_publish.new.self same
-    (same_looked x c.try_publish.new.self c.in-Err-try_publish.ensures.refused c.in-Err-try_publish.ensures.unchanged)) c.requires.given
+    (same_looked x c.try_publish.new.self c.in_err-try_publish.ensures.refused c.in_err-try_publish.ensures.unchanged)) c.requires.given
 
-pub returns-in-Err-try_publish-clause-waiting : goal.returns-in-Err-try_publish-clause-waiting
-returns-in-Err-try_publish-clause-waiting c =
+pub returns-in_err-try_publish-clause-waiting : goal.returns-in_err-try_publish-clause-waiting
+returns-in_err-try_publish-clause-waiting c =
     let v = c.args.streamer.now in
     let w = c.try_free.new.self in
     let x = c.fill.new.self in
     let same : HasSame v x = same_both v w x (same_looked v w c.try_free.ensures.looked c.try_free.ensures.rest) (same_filled w x c.fill.ensures.rest) in
-    inr (bank_awaited v x c.try_publish.new.self c.in-Err-try_publish.waiting.sampler c.in-Err-try_publish.waiting.holds same
-    c.in-Err-try_publish.ensures.refused c.in-Err-try_publish.ensures.waiting)
+    handed_on c.from_residual-in_err-try_publish.result c.in_err-try_publish.field-0.0 _ c.from_residual-in_err-try_publish.ensures.1
+    (inr (bank_awaited v x c.try_publish.new.self c.in_err-try_publish.field-0.0.sampler c.in_err-try_publish.field-0.0.holds same
+    c.in_err-try_publish.ensures.refused c.in_err-try_publish.ensures.waiting))
 
-pub returns-in-Ok-clause-written : goal.returns-in-Ok-clause-written
-returns-in-Ok-clause-written c =
+pub returns-in_err-try_free-clause-waiting : goal.returns-in_err-try_free-clause-waiting
+returns-in_err-try_free-clause-waiting c =
+    let v = c.args.streamer.now in
+    let w = c.try_free.new.self in
+    handed_on c.from_residual.result c.in_err-try_free.field-0.0 _ c.from_residual.ensures.1
+    (inl (frame_awaited v v w c.args.frame c.in_err-try_free.field-0.0.sampler c.in_err-try_free.field-0.0.holds (same_none v)
+    c.try_free.ensures.looked c.in_err-try_free.ensures.waiting))
+
+pub returns-clause-written : goal.returns-clause-written
+returns-clause-written c =
     written_one c.args.words.now.sizes c.args.streamer.now c.try_free.new.self c.fill.new.self c.try_publish.new.self c.args.frame c.requires.of.seen
-    c.try_free.ensures.looked c.try_free.ensures.rest c.in_default.ensures.may c.fill.ensures.other_contents
-    (ap (λ (w : WriterView). w.texels) c.in-Ok.ensures.published.rest)
+    c.try_free.ensures.looked c.try_free.ensures.rest c.in_ok-try_free.ensures.may c.fill.ensures.other_contents
+    (ap (λ (w : WriterView). w.texels) c.in_ok-try_publish.ensures.published.rest)
 
-pub returns-in-Err-try_publish-clause-written : goal.returns-in-Err-try_publish-clause-written
-returns-in-Err-try_publish-clause-written c =
+pub returns-in_err-try_publish-clause-written : goal.returns-in_err-try_publish-clause-written
+returns-in_err-try_publish-clause-written c =
     written_one c.args.words.now.sizes c.args.streamer.now c.try_free.new.self c.fill.new.self c.try_publish.new.self c.args.frame c.requires.of.seen
-    c.try_free.ensures.looked c.try_free.ensures.rest c.in_default.ensures.may c.fill.ensures.other_contents
-    (ap (λ (w : WriterView). w.texels) c.in-Err-try_publish.ensures.refused.rest)
+    c.try_free.ensures.looked c.try_free.ensures.rest c.in_ok-try_free.ensures.may c.fill.ensures.other_contents
+    (ap (λ (w : WriterView). w.texels) c.in_err-try_publish.ensures.refused.rest)
 
-pub returns-in-Err-clause-written : goal.returns-in-Err-clause-written
-returns-in-Err-clause-written c = written_none _ _ _ c.try_free.ensures.looked
+pub returns-in_err-try_free-clause-written : goal.returns-in_err-try_free-clause-written
+returns-in_err-try_free-clause-written c = written_none _ _ _ c.try_free.ensures.looked
