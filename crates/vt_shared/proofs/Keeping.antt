@@ -1,7 +1,7 @@
 -- What stays over the steps of the owner.
 use Rattle.std.proofs.Common.{◌≡◌, ◌≢◌, ℕ, ◌-◌, ◌<◌, inl, inr, List, [], ◌∷◌, ◌++◌, length, refl, sym, ap, ◌∙◌, subst, arith}
 use Rattle.vt_journal.specs.declared.changes.Change.{Change}
-use Rattle.vt_journal.specs.declared.changes.Change.TheVariants.{Map, Unmap}
+use Rattle.vt_journal.specs.declared.changes.Change.TheVariants.{Map}
 use Rattle.vt_grace.specs.declared.sizes.Sizes.{Sizes}
 use Rattle.vt_grace.specs.declared.views.WriterView.{WriterView}
 use Rattle.vt_grace.specs.Banks.{MayFill}
@@ -12,7 +12,7 @@ use Rattle.vt_streamer.specs.Fills.{words_in}
 use Rattle.vt_streamer.specs.Frees.{IsUnmappedBy}
 use Rattle.vt_streamer.specs.Looks.{HasLooked, IsFirstBehind}
 use Rattle.vt_streamer.specs.Views.{StreamerView}
-use Rattle.vt_shared.specs.Owners.{HasKept, HasWritten, HasMapped, HasUnmapped, WasLeft, IsAwaited, AwaitsBank, AwaitsFrame}
+use Rattle.vt_shared.specs.Owners.{HasKept, HasWritten, HasMapped, WasLeft, IsAwaited, AwaitsBank, AwaitsFrame}
 
 -- nothing was published either
 pub record HasSame (v w : StreamerView) : Type 0 where
@@ -148,9 +148,3 @@ has_mapped z u w x page frame tile left same sizes content h =
       journal = h.journal ∙ ap (λ (js : List Change). js ++ Map page frame ∷ []) same.journal;
       contents = h.contents ∙ (λ i. same.contents i ++ brought i ∷ []);
     }
-
-pub has_unmapped : (u w x : StreamerView) (page frame : ℕ) → HasSame u w → HasPublished w.writer x.writer (Unmap page frame) → HasUnmapped u page frame x
-has_unmapped u w x page frame same h = record {
-  journal = h.journal ∙ ap (λ (js : List Change). js ++ Unmap page frame ∷ []) same.journal;
-  contents = h.contents ∙ ap (λ (cs : List (List ℕ)). cs ++ [] ∷ []) same.contents;
-}
