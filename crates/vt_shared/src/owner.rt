@@ -176,10 +176,7 @@ impl Owner {
     {
         let _depth = self.depth;
         let root = self.table.geometry().page_count() - 1;
-        match self.table.frame_of(root) {
-            Some(_) => true,
-            None => false,
-        }
+        self.table.frame_of(root).is_some()
     }
 
     /// The first sampler whose pass is not out.
