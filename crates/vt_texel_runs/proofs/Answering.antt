@@ -1,5 +1,5 @@
 -- Points that were answered stay answered: a look-up goes on to say what it says.
-use Rattle.std.proofs.Common.{◌≡◌, ℕ, ◌+◌, ◌<◌, ◌⊎◌, List, length, refl, sym, subst, ⊎_elim, arith, get_or}
+use Rattle.std.proofs.Common.{◌≡◌, ℕ, ◌+◌, ◌<◌, ◌⊎◌, List, length, sym, subst, ⊎_elim, arith, get_or}
 use Rattle.std.specs.Prelude.{◌≢◌}
 use Rattle.vt_definitions.specs.Depths.{texel_bytes}
 use Rattle.vt_pages.specs.Shape.{Shape}

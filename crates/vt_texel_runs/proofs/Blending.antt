@@ -17,7 +17,6 @@ use Rattle.vt_plain_bilinear.specs.Served.{AreServed}
 use Rattle.vt_plain_bilinear.proofs.Kept.{all_served_kept}
 use Rattle.vt_texel_runs.specs.declared.spans.Span.{Span}
 use Rattle.vt_texel_runs.specs.Blends.{spot_at, span_corners, IsBlendAt, AreBlendsAlong}
-use Rattle.vt_texel_runs.specs.Points.{IsPoint}
 use Rattle.vt_texel_runs.specs.Spans.{stepped, span_point}
 
 -- the texel of level 0 that a place lies in

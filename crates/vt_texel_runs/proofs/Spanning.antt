@@ -5,7 +5,6 @@ use Rattle.std.proofs.lemmas.List.{get_or-set_same, get_or-set_other}
 use Rattle.vt_definitions.specs.Depths.{texel_bytes}
 use Rattle.vt_pages.specs.Shape.{Shape}
 use Rattle.vt_draw.specs.Lookups.{Note, covering_page}
-use Rattle.vt_texel_runs.specs.declared.points.Point.{Point}
 use Rattle.vt_texel_runs.specs.declared.spans.Span.{Span}
 use Rattle.vt_texel_runs.specs.Points.{IsAnswered}
 use Rattle.vt_texel_runs.specs.Spans.{span_point, AreSpanned, AreWanted}

@@ -1,6 +1,6 @@
 //! Runs of texels at even steps, read over a look-up of pages.
 
-ghost use Rattle.std.specs.Prelude.{◌≡◌, ◌*◌, ◌<◌, length};
+ghost use Rattle.std.specs.Prelude.{◌≡◌, ◌*◌, length};
 ghost use Rattle.std.specs.Bool.{MatchBool};
 ghost use Rattle.vt_definitions.specs.Depths.{IsDepth, texel_length};
 ghost use Rattle.vt_pages.specs.Pages.{IsWithinLimits};

@@ -1,8 +1,6 @@
-use Rattle.std.proofs.Common.{◌≡◌, ℕ, ◌+◌, ◌*◌, ◌<◌, ◌≤◌, length, get_or, subst, sym, ap, ◌∙◌, arith}
+use Rattle.std.proofs.Common.{◌≡◌, ℕ, ◌+◌, ◌*◌, ◌≤◌, length, get_or, subst, sym, ◌∙◌, arith}
 use Rattle.std.proofs.Math.Nat.{mul-le-mul_left}
-use Rattle.vt_pages.specs.Shape.{Shape}
-use Rattle.vt_pages.specs.Pages.{levels_of, pages_of, IsWithinLimits}
-use Rattle.vt_draw.specs.Lookups.{IsFinest, covering_page}
+use Rattle.vt_draw.specs.Lookups.{IsFinest}
 use Rattle.vt_definitions.specs.Depths.{texel_bytes, texel_length}
 use Rattle.vt_draw.proofs.DrawnPixels.{finest_moved}
 use Rattle.vt_texel_runs.specs.declared.points.Point.{Point}

@@ -1,4 +1,4 @@
-use Rattle.std.proofs.Common.{◌≡◌, ℕ}
+use Rattle.std.proofs.Common.{◌≡◌}
 use Rattle.vt_draw.specs.Lookups.{Note, IsFinest}
 use Rattle.vt_texel_runs.specs.Points.{AreAnswered}
 use Rattle.vt_texel_runs.proofs.points.read_points.Given as goal

@@ -1,6 +1,5 @@
-use Rattle.std.proofs.Common.{◌≡◌, ℕ, ◌+◌, ◌*◌, ◌<◌, ◌≤◌, length, subst, sym, ap, ◌∙◌, arith}
+use Rattle.std.proofs.Common.{◌≡◌, ℕ, ◌+◌, ◌*◌, ◌≤◌, subst, sym, ap, ◌∙◌, arith}
 use Rattle.std.proofs.Math.Nat.{mul-le-mul_left}
-use Rattle.vt_pages.specs.Shape.{Shape}
 use Rattle.vt_draw.specs.Lookups.{IsFinest, covering_page}
 use Rattle.vt_definitions.specs.Depths.{texel_bytes, texel_length}
 use Rattle.vt_draw.proofs.DrawnPixels.{finest_moved}

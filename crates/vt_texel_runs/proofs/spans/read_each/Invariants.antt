@@ -1,4 +1,4 @@
-use Rattle.std.proofs.Common.{◌≡◌, ℕ, length}
+use Rattle.std.proofs.Common.{◌≡◌}
 use Rattle.vt_draw.specs.Lookups.{Note, IsFinest}
 use Rattle.vt_texel_runs.specs.Spans.{AreSpanned, AreWanted}
 use Rattle.vt_texel_runs.proofs.spans.read_each.Given as goal
