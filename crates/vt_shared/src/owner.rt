@@ -10,7 +10,7 @@ ghost use Rattle.vt_journal.specs.Lookups.{is_mapped};
 ghost use Rattle.vt_grace.specs.Sizes.{sizes_of};
 ghost use Rattle.vt_grace.specs.Sound.{IsSound};
 ghost use Rattle.vt_grace.specs.WriterViews.{first_writer, is_out, after_look};
-ghost use Rattle.vt_grace.specs.Giving.{after_giving, after_return, new_pass};
+ghost use Rattle.vt_grace.specs.Giving.{after_giving, after_return};
 ghost use Rattle.vt_lookup.specs.Notes.{IsNotedIn};
 ghost use Rattle.vt_texel_runs.specs.declared.points.Point.{Point};
 ghost use Rattle.vt_shared.specs.Given.{HasTileLength, IsOfItsTile};

@@ -1,6 +1,6 @@
 //! A reader of a table of shared words, which one thread at a time uses.
 
-ghost use Rattle.std.specs.Prelude.{◌≡◌, ◌+◌, ◌*◌, ◌<◌, ◌≤◌, true, length, IfSome, IfNone};
+ghost use Rattle.std.specs.Prelude.{◌≡◌, ◌*◌, ◌<◌, true, length, IfSome, IfNone};
 ghost use Rattle.std.specs.List.{All};
 ghost use Rattle.std.specs.Bool.{MatchBool};
 ghost use Rattle.std.specs.Arc.{arc_value};

@@ -1,4 +1,4 @@
-use Rattle.std.proofs.Common.{ℕ, sym, subst}
+use Rattle.std.proofs.Common.{sym, subst}
 use Rattle.vt_grace.specs.Values.{HeldValue}
 use Rattle.vt_lookup.specs.Notes.{IsNotedIn}
 use Rattle.vt_texel_runs.specs.Spans.{AreSpanned}
