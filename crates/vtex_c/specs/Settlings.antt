@@ -1,24 +1,22 @@
 -- What a batch of changes does to a shared table, by the number that the call answers.
 use Rattle.std.specs.Prelude.{◌≡◌, ℕ, zero, suc, ◌+◌, ◌*◌, ◌≤◌, ◌⊎◌, None, Some, List, length, slice_get, slice_range}
-use Rattle.vt_definitions.specs.Depths.{texel_length}
 use Rattle.vt_journal.specs.Changes.{newest}
+use Rattle.vt_tiles.specs.Format.{tile_length}
 use Rattle.vt_shared.specs.Owners.{OwnerView, HasWritten, AwaitsBank, AwaitsEither}
 use Rattle.vtex_c.specs.declared.settle.VtexStep.{VtexStep}
 use Rattle.vtex_c.specs.declared.table.TablePlace.{TablePlace}
 use Rattle.vtex_c.specs.declared.table.VtexWaiting.{VtexWaiting}
 use Rattle.vtex_c.specs.Tables.{Between, MayMap, MayUnmap, HasMappedPage, HasLeftFrame, HasNoVersion}
 
--- how many bytes a tile of a table has
-abbrev pub tile_length : OwnerView → ℕ
-tile_length o = texel_length o.depth * (o.streamer.shape.tile * o.streamer.shape.tile)
-
 -- the tile of a number, among tiles that stand one after the other
 abbrev pub tile_at : OwnerView → List ℕ → ℕ → List ℕ
-tile_at o tiles k = slice_range tiles (k * tile_length o) (k * tile_length o + tile_length o)
+tile_at o tiles k =
+    let bytes = tile_length o.streamer.shape o.depth in
+    slice_range tiles (k * bytes) (k * bytes + bytes)
 
 -- a step can be made: its page can be mapped to its frame, and its tile is one of those given; or its page can be taken out of its frame
 pub record MayMake (tiles : List ℕ) (s : VtexStep) (o : OwnerView) : Type 0 where
-  pub tile : (s.mapped ≡ 0 → ⊥) → s.tile * tile_length o + tile_length o ≤ length tiles
+  pub tile : (s.mapped ≡ 0 → ⊥) → s.tile * tile_length o.streamer.shape o.depth + tile_length o.streamer.shape o.depth ≤ length tiles
   pub put : (s.mapped ≡ 0 → ⊥) → MayMap o s.page s.frame (length (tile_at o tiles s.tile))
   pub left : s.mapped ≡ 0 → MayUnmap o s.page
   pub at : s.mapped ≡ 0 → newest o.streamer.writer.journal s.page ≡ Some s.frame

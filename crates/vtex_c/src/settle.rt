@@ -1,11 +1,13 @@
 //! A batch of changes of a shared table, made in their order as far as they can be made at once.
 
 ghost use Rattle.std.specs.Prelude.{◌≡◌, ◌≤◌};
-ghost use Rattle.vtex_c.specs.Settlings.{tile_length, IsMade, AreMadeBy, IsSettled};
+ghost use Rattle.vt_tiles.specs.Format.{tile_length};
+ghost use Rattle.vtex_c.specs.Settlings.{IsMade, AreMadeBy, IsSettled};
 
 use crate::table::{TablePlace, VtexWaiting, frame_to_leave, leave, put};
 use crate::{BAD_NUMBER, CLOSED, DONE};
 use vt_shared::Owner;
+use vt_tiles::tile_length;
 
 /// A change to be made: `mapped` is 0 where a page is taken out of its frame, and else it is mapped to the frame with one of the tiles
 /// given, which are numbered from 0.
@@ -20,11 +22,10 @@ pub struct VtexStep {
 
 // How many bytes a tile of a table has.
 fn tile_bytes(owner: &Owner) -> usize
-    ensures is { result ≡ tile_length owner.now }
+    ensures is { result ≡ tile_length owner.now.streamer.shape owner.now.depth }
     ensures few { result ≤ 98304 }
 {
-    let side = owner.geometry().tile() as usize;
-    3 * owner.depth() as usize * (side * side)
+    tile_length(owner.geometry(), owner.depth())
 }
 
 // Maps the page of a step.

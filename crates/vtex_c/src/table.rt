@@ -13,6 +13,7 @@ use crate::{BAD_NUMBER, BAD_SHAPE, CLOSED, DONE, NO_MEMORY, WAITING};
 use std::alloc::Global;
 use vt_pages::Geometry;
 use vt_shared::{Owner, Waiting};
+use vt_tiles::tile_length;
 
 /// Whom a call waits for: the number of a reader, and the version that it announced. It may hold this one or a later one.
 #[repr(C)]
@@ -52,8 +53,7 @@ fn is_tile_length(geometry: &Geometry, depth: u32, length: usize) -> bool
     requires { IsDepth depth }
     ensures { MatchBool result (HasTileLength geometry.now depth length) (HasTileLength geometry.now depth length → ⊥) }
 {
-    let side = geometry.tile() as usize;
-    length == 3 * depth as usize * (side * side)
+    length == tile_length(geometry, depth)
 }
 
 // Whether a page can be mapped to a frame.
