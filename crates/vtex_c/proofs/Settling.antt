@@ -3,7 +3,31 @@ use Rattle.std.proofs.Common.{◌≡◌, ℕ, suc, ◌+◌, List, sym, ◌∙◌
 use Rattle.vt_shared.specs.Owners.{OwnerView}
 use Rattle.vtex_c.specs.declared.settle.VtexStep.{VtexStep}
 use Rattle.vtex_c.specs.declared.table.VtexWaiting.{VtexWaiting}
-use Rattle.vtex_c.specs.Settlings.{MayMake, IsMade, AreMade, AreMadeBy}
+use Rattle.vtex_c.specs.Settlings.{MayMake, IsMade, IsTakenOut, AreMade, AreMadeBy}
+
+-- a step that takes its page out of its frame is made so
+pub made_out : (tiles : List ℕ) (s : VtexStep) (a : OwnerView) (before : VtexWaiting) (status : ℕ) (after : VtexWaiting) (b : OwnerView) → s.mapped ≡ 0
+    → IsTakenOut s.page s.frame a before status after b → IsMade tiles s a before status after b
+made_out tiles s a before status after b out h = record {
+  statuses = h.statuses;
+  inside = λ e. record {
+    tile = λ not. absurd (not out);
+    put = λ not. absurd (not out);
+    left = λ _. (h.inside e).may;
+    at = λ _. (h.inside e).at;
+  };
+  made = λ e. record { put = λ not. absurd (not out); left = λ _. h.left e };
+  unfit = λ e may. h.unfit e record { may = may.left out; at = may.at out };
+  same = h.same;
+  waits = h.waits;
+  awaited = λ e. record {
+    written = λ not. absurd (not out);
+    unwritten = λ _. h.unwritten e;
+    put = λ not. absurd (not out);
+    left = λ _. h.awaited e;
+  };
+  kept = h.kept;
+}
 
 -- so many steps, and one more
 pub made_more : (steps : List VtexStep) (tiles : List ℕ) (k : ℕ) (s : VtexStep) (a b d : OwnerView) (before : VtexWaiting) (status : ℕ) (after : VtexWaiting)

@@ -44,6 +44,24 @@ pub record IsMade (tiles : List ℕ) (s : VtexStep) (a : OwnerView) (before : Vt
   pub awaited : status ≡ 6 → AwaitsStep s a b after
   pub kept : (status ≡ 6 → ⊥) → after ≡ before
 
+-- a page can be taken out of a frame, in which it is
+pub record MayTakeOut (page frame : ℕ) (o : OwnerView) : Type 0 where
+  pub may : MayUnmap o page
+  pub at : newest o.streamer.writer.journal page ≡ Some frame
+
+-- a page was taken out of a frame: 0; it cannot be, or it is not in that frame: 2; a reader may still hold a version that is in its way, and
+-- it is told which: 6
+pub record IsTakenOut (page frame : ℕ) (a : OwnerView) (before : VtexWaiting) (status : ℕ) (after : VtexWaiting) (b : OwnerView) : Type 0 where
+  pub statuses : (status ≡ 0) ⊎ (status ≡ 2) ⊎ (status ≡ 6)
+  pub inside : status ≡ 0 → MayTakeOut page frame a
+  pub left : status ≡ 0 → HasLeftFrame page frame a b
+  pub unfit : status ≡ 2 → MayTakeOut page frame a → ⊥
+  pub same : status ≡ 2 → b ≡ a
+  pub waits : status ≡ 6 → HasNoVersion a b
+  pub unwritten : status ≡ 6 → b.streamer.writer.texels ≡ a.streamer.writer.texels
+  pub awaited : status ≡ 6 → AwaitsBank a.streamer b.streamer after.reader after.version
+  pub kept : (status ≡ 6 → ⊥) → after ≡ before
+
 -- the first n steps could be made and were made, one after the other, each in the next version
 abbrev pub AreMade : List VtexStep → List ℕ → ℕ → OwnerView → OwnerView → Type 0
 AreMade steps tiles zero a b = b ≡ a

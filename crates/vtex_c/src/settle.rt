@@ -2,7 +2,7 @@
 
 ghost use Rattle.std.specs.Prelude.{◌≡◌, ◌≤◌};
 ghost use Rattle.vt_tiles.specs.Format.{tile_length};
-ghost use Rattle.vtex_c.specs.Settlings.{IsMade, AreMadeBy, IsSettled};
+ghost use Rattle.vtex_c.specs.Settlings.{IsMade, IsTakenOut, AreMadeBy, IsSettled};
 
 use crate::table::{TablePlace, VtexWaiting, frame_to_leave, leave, put};
 use crate::{BAD_NUMBER, CLOSED, DONE};
@@ -47,19 +47,17 @@ fn put_step(owner: &mut Owner, step: &VtexStep, tiles: &[u8], waiting: &mut Vtex
     )
 }
 
-// Takes the page of a step out of its frame.
-fn leave_step(owner: &mut Owner, step: &VtexStep, tiles: &[u8], waiting: &mut VtexWaiting) -> u32
-    requires { step.now.mapped ≡ 0 }
-    ensures { IsMade tiles.now step.now owner.old waiting.old result waiting.new owner.new }
+// Takes a page out of a frame, where it is in that frame.
+fn take_out(owner: &mut Owner, page: u32, frame: u32, waiting: &mut VtexWaiting) -> u32
+    ensures { IsTakenOut page frame owner.old waiting.old result waiting.new owner.new }
 {
-    let _tiles = tiles;
-    let Some(frame) = frame_to_leave(owner, step.page) else {
+    let Some(own) = frame_to_leave(owner, page) else {
         return BAD_NUMBER;
     };
-    if frame != step.frame {
+    if own != frame {
         return BAD_NUMBER;
     }
-    leave(owner, step.page, frame, waiting)
+    leave(owner, page, own, waiting)
 }
 
 // Makes a step.
@@ -67,7 +65,7 @@ fn make(owner: &mut Owner, step: &VtexStep, tiles: &[u8], waiting: &mut VtexWait
     ensures { IsMade tiles.now step.now owner.old waiting.old result waiting.new owner.new }
 {
     if step.mapped == 0 {
-        return leave_step(owner, step, tiles, waiting);
+        return take_out(owner, step.page, step.frame, waiting);
     }
     put_step(owner, step, tiles, waiting)
 }
