@@ -1,6 +1,6 @@
 //! Shapes of textures and names of pages as C gives them.
 
-ghost use Rattle.std.specs.Prelude.{◌≡◌, ◌<◌, ◌≤◌, MatchOption};
+ghost use Rattle.std.specs.Prelude.{◌≡◌, MatchOption};
 ghost use Rattle.std.specs.Bool.{MatchBool};
 ghost use Rattle.vt_pages.specs.Pages.{IsPage};
 ghost use Rattle.vt_pages.specs.Laws.{IsInside};

@@ -1,5 +1,5 @@
 -- The reader is lent to `run` for a lifetime of its own, and comes back.
-use Rattle.vtex_c.proofs.Steps.{◌≡◌, ℕ, List, [], ◌∷◌, refl, w32, MutBor, proved, full_share, id⊢, Lft, GName, ftrue, flft, fres, flent, named, Val, vint, vptr, fact, tables, Body, ‵, raw, ◌⊛◌, some, later, prop, ◌$◌, ◌∵◌, !, qed, done, move, keep, drop, use1, use2, use3, split, join, fsplit, fjoin, frame, show, pick, await, regoal, suffices, group, lft_new, lft_end, enter, of_opd, addr, from, fld, hop, stop, no_more, and_then, returns, agg, sub, whole, look_in_at, get_in, alloc_all, pass_all, free_all, look_at, get, through, sets, lands_as, u8, u32, SliceRefOf, RefOf, yes, Is, shows, lends_ref, ref_back, mem, uint_Lawful, uint_vals, uint_Tells, Ptr, RawPtr, block_ptr, lies_at, in_a_block, rawptr_vals, rawptr_Tells, MutRef, mut_vals, shr_vals, shr_Tells, shr_slice_vals, mut_slice_vals, shr_slice_Tells, mut_slice_Tells, slice_val, owns, types_at, sep, plain, nothing, heard, peeks, calls_at, Lasts, lasts, on_entry, triple_of, Stays, walk_of, says, stay_dropped, Goes-dropped, gave_slice, Goes-gave_slice, gave_ref, Goes-gave_ref, mut_Tells, ends_at, framed}
+use Rattle.vtex_c.proofs.Steps.{ℕ, List, [], ◌∷◌, refl, w32, MutBor, proved, full_share, id⊢, Lft, GName, ftrue, flft, flent, named, Val, vptr, fact, tables, Body, ‵, raw, ◌⊛◌, some, later, prop, ◌$◌, ◌∵◌, !, qed, done, move, keep, drop, use1, use2, use3, split, join, fsplit, fjoin, frame, show, pick, await, regoal, suffices, group, lft_new, lft_end, enter, of_opd, addr, from, fld, hop, stop, no_more, and_then, returns, agg, sub, whole, look_in_at, get_in, alloc_all, pass_all, free_all, look_at, get, through, sets, lands_as, u8, u32, RefOf, yes, Is, shows, lends_ref, ref_back, mem, uint_Lawful, Ptr, RawPtr, block_ptr, lies_at, in_a_block, rawptr_vals, rawptr_Tells, MutRef, shr_vals, shr_Tells, mut_slice_vals, mut_slice_Tells, owns, types_at, sep, plain, nothing, heard, peeks, calls_at, Lasts, lasts, triple_of, Stays, walk_of, says, stay_dropped, Goes-dropped, gave_slice, Goes-gave_slice, ends_at, framed}
 use types.Logic.{sem}
 use prog.Wp.{WpFn}
 use Rattle.vtex_c.specs.Readers.{IsRunRead}
