@@ -61,6 +61,7 @@ fn take_out(owner: &mut Owner, page: u32, frame: u32, waiting: &mut VtexWaiting)
 }
 
 // Makes a step.
+#[tactic(auto, using(crate::proofs::Settling::made_out))]
 fn make(owner: &mut Owner, step: &VtexStep, tiles: &[u8], waiting: &mut VtexWaiting) -> u32
     ensures { IsMade tiles.now step.now owner.old waiting.old result waiting.new owner.new }
 {
