@@ -25,7 +25,7 @@ import client
 from journals import Journal, replay
 from judge import FAULT, LINES, Doubt, Left, flaws_of_walk
 from real_rows import BLANKS, DEFAULTS, GENERATED, HEAD, JOURNALS, KEYS, LARGE_OTHERS, LARGE_PATH, LARGE_STORES, LONG_SIDES, NO_STORES, ODD, OPTIONS
-from real_rows import OTHERS, PATHS, PICTURES, REFUSALS, REFUSED_TEXTURES, STORE_FLAWS, STORES, TEXTURES, WALKS, bad_input
+from real_rows import OTHERS, PATHS, PICTURES, READ_WORDS, REFUSALS, REFUSED_TEXTURES, REFUSED_WORDS, STORE_FLAWS, STORES, TEXTURES, WALKS, bad_input
 from reference import walk_words, write
 from rows import FOUR_STORE, wrong_rows
 from stores import Path, Store, contents
@@ -62,9 +62,10 @@ class Checks:
         self.lines.append("skipped: " + what)
 
     def run(self, words, kibibytes=None, out=subprocess.PIPE):
-        """A run of the program by these words, with no more memory than so many KiB."""
+        """A run of the program by these words, a list or a line that blanks cut, with no more memory than so many KiB."""
         limit = kibibytes and (lambda: resource.setrlimit(resource.RLIMIT_AS, (1024 * kibibytes,) * 2))
-        return subprocess.run([self.program, *words.split()], stdin=subprocess.DEVNULL, stdout=out, stderr=subprocess.PIPE, preexec_fn=limit)
+        words = words.split() if isinstance(words, str) else words
+        return subprocess.run([self.program, *words], stdin=subprocess.DEVNULL, stdout=out, stderr=subprocess.PIPE, preexec_fn=limit)
 
     def refuses(self, words, status, line):
         """The program ends with this status and line, prints nothing else, and leaves the folder as it was."""
@@ -347,6 +348,10 @@ def try_refusal(check, words, status, line):
     check.say(check.refuses(words, status, line), words)
 
 
+def try_words(check, line, status):
+    check.say(check.refuses(line.split(" "), status, LINES[status]), "the words %r" % line)
+
+
 def full_output(check):
     """An output that takes nothing: the picture is there and the line is not."""
     with open("/dev/full", "wb") as full:
@@ -532,6 +537,8 @@ TABLES = [
     (largest_generated, [()]),
     (try_option, OPTIONS),
     (try_refusal, REFUSALS),
+    (try_words, [(line, 2) for line in REFUSED_WORDS]),
+    (try_words, [(line, 3) for line in READ_WORDS]),
     (full_output, [()]),
     (worked_rows, [()]),
     (unfit_picture, [()]),

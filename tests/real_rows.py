@@ -61,6 +61,24 @@ PATHS = [
     ("size 2 1\nfocal 1\nto x 0 0 1 0 0\n", "bad line 3"),
     ("size 2 1\nfocal 1\nat 0 0 256 16384 0\nto 0 0 0 1 0 0\n", "bad line 4"),
     ("size 2 1\nfocal 1\nat 0 0 1 0 0\nto 9999 0 0 1 0 0\n", "too many pictures"),
+    ("focal 1\nsize 2 1\n", "bad line 1"),
+    ("size 0 1\nfocal 1\n", "bad line 1"),
+    ("size 2 2049\nfocal 1\n", "bad line 1"),
+    ("size 2 01\nfocal 1\n", "bad line 1"),
+    ("size 2 1\nfocal 0\n", "bad line 2"),
+    ("size 2 1\nfocal 4097\n", "bad line 2"),
+    ("size 2 1\nfocal 1\nat 0 0 1 0 0 0\n", "bad line 3"),
+    ("size 2 1\nfocal 1\nat 0 0 1 0 -0\n", "bad line 3"),
+    ("size 2 1\nfocal 1\nat 0 0 16777217 1 0\n", "bad line 3"),
+    ("size 2 1\nfocal 1\nat 0 0 1 16385 0\n", "bad line 3"),
+    ("size 2 1\nfocal 1\nat 0 0 1 0 -16385\n", "bad line 3"),
+    ("size 2 1\nfocal 1\nat 2147483649 0 1 0 0\n", "bad line 3"),
+    ("size 2 1\nfocal 1\nat 0 -2147483649 1 0 0\n", "bad line 3"),
+    ("size 2 1\nfocal 1\nto 1 0 0 1 0\n", "bad line 3"),
+    ("size 2 1\nfocal 1\nto 9999 0 0 1 0 0\nat\n", "no key at line 3"),
+    ("size 2 1\nfocal 1\nat 0 0 256 16384 0\n\n", "bad line 4"),
+    ("size 2 1\nfocal 1\nat 0 0 256 16384 0\nto 10000 0 0 1 0 0\n", "bad line 4"),
+    ("size 2 1\nfocal 1\nat 0 0 256 16384 0\nto 9998 0 0 1 0 0\nat 0 0 1 0 0\nat\n", "too many pictures"),
 ]
 
 # A texture, and the bytes of its first texel.
@@ -75,6 +93,7 @@ TEXTURES = [
     (b"P6 1 1 254\n\177\376\001", b"\x80\xff\x01"),
     (b"P6 1 1 65535\n\0\001\200\0\377\377", b"\x00\x01\x80\x00\xff\xff"),
     (b"P6 1 1 256\n\001\0\0\200\0\001", b"\xff\xff\x80\x00\x01\x00"),
+    (b"P6\t1\r1 #\r255 \007\010\011\012", b"\x07\x08\x09"),
 ]
 
 # A texture, and why it is refused.
@@ -105,6 +124,8 @@ REFUSED_TEXTURES = [
     (b"P6 1 1 100\n\001\145\0", "sample over maximum at byte 12"),
     (b"P6 1 1 256\n\001\001\0\200\0\001", "sample over maximum at byte 11"),
     (b"P6 1 1 256\n\001\0\0\200\001\001", "sample over maximum at byte 15"),
+    (b"P6 1 1x255\nabc", "bad header at byte 6"),
+    (b"P6 #1 1 255 abc", "bad header at byte 15"),
 ]
 
 # Textures whose sides `tile` takes, so that it finds another flaw, and `plain`, which reads a texture whole, does not.
@@ -290,6 +311,52 @@ REFUSALS = [
     ("trial 07", 2, USAGE),
     ("trial 7 7", 2, USAGE),
     ("trial", 2, USAGE),
+]
+
+# Words that are none of a command's, one blank between any two: two blanks stand about an empty word. All end with the usage line.
+REFUSED_WORDS = [
+    "tile t s --tile 1", "tile t s --tile 129", "tile t s --tile 256", "tile t s --tile 3", "tile t s --tile 08", "tile t s --tile=",
+    "tile t s --tile 8 --tile 8", "tile t s --tile", "tile t s --til 8", "tile t s -- --tile 8", "info --", "", "walk s p", "replay s p j",
+    "Plain t p x", "plain t p", "plain t p x y", "plain -t p x", "tile t", "tile t s u", "info", "info s u", "info -5", "info --help",
+    "info s -h", "info s --version", "info s --tile 8", "upgrade", "upgrade s", "upgrade s n m", "upgrade s n --tile 8", "gen 65536 1 1 n",
+    "gen -1 1 1 n", "gen -- -1 1 1 n", "gen 0 0 1 n", "gen 0 8193 1 n", "gen 0 1 0 n", "gen 0 1 8193 n", "gen  1 1 n", "gen +1 1 1 n",
+    "gen 1 1 n", "gen 1 1 1 n m", "gen 1 1 1 n --tile 8", "tile a a", "plain x0000.ppm p x", "plain t x9999.ppm x", "plain 0001.ppm p ",
+    "upgrade a a", "upgrade  ", "walk s p x --frames 0", "walk s p x --frames 65536", "walk s p x --frames 064", "walk s p x --frames ",
+    "walk s p x --frames=-1", "walk s p x --samplers 0", "walk s p x --samplers 65", "walk s p x --loaders 0", "walk s p x --loaders 17",
+    "walk s p x --batch 0", "walk s p x --batch 4097", "walk s p x --pinned 0", "walk s p x --pinned 17", "walk s p x --batch 1 --batch 1",
+    "walk s p x --batch", "walk", "walk s", "walk s p x y", "walk s p x --settled --settled", "walk s p x --settled=true",
+    "walk s p x --settle", "walk s p x --tile 64", "walk s p x --help", "walk s p x -f 64", "walk x0000.ppm p x", "walk s x9999.ppm x",
+    "walk s p x --journal x0001.ppm", "walk s p x --journal s", "walk s p x --journal p", "walk journal.txt p x", "walk s journal.txt x",
+    "walk 0000.ppm p ", "replay", "replay s p j x y", "replay s p j x --settled", "replay s p s x", "replay s p p x",
+    "replay x0000.ppm p j x", "replay s x0000.ppm j x", "replay s p x0000.ppm x", "plain t p x --filter trilinear",
+    "plain t p x --filter Bilinear", "replay s p j x --filter=", "replay s p j x --filter", "walk s p x --filter linear",
+    "walk s p x --filter bilinear --filter bilinear", "tile t s --filter bilinear", "info s --filter nearest",
+    "gen 1 1 1 n --filter bilinear", "trial 7 --filter bilinear", "walk s p x --rows shared --filter bilinear",
+    "walk s p x --filter=bilinear --rows=shared", "walk s p x --rows stolen", "walk s p x --rows Shared", "walk s p x --rows=",
+    "walk s p x --rows", "walk s p x --rows shared --rows shared", "walk s p x --row shared", "plain t p x --rows shared",
+    "replay s p j x --rows shared", "tile t s --rows dealt", "trial 7 --rows shared", "walk s p x --table swap --rows shared",
+    "walk s p x --filter=bilinear --table=swap", "walk s p x --table swap --rows shared --filter bilinear", "walk s p x --table other",
+    "walk s p x --table Swap", "walk s p x --table=", "walk s p x --table", "walk s p x --table swap --table swap",
+    "walk s p x --tabl swap", "replay s p j x --table swap", "trial 7 --table words", "trial 65536", "trial 07", "trial -1", "trial",
+    "trial 7 7",
+]
+
+# Words that are a command's, whose names are not in the folder: they end with the line of a fault, for the command looks for them.
+READ_WORDS = [
+    "plain t p x", "tile t s", "tile t s --tile 2", "tile t s --tile 128", "tile t s --tile=8", "tile --tile 16 t s",
+    "plain t --tile=32 p x", "info -- --tile", "tile t -- --tile", "tile --tile=4 -- -t -s", "upgrade -- -s --t", "walk s p x",
+    "replay s p j x", "plain   ", "tile - s", "info help", "upgrade s n", "tile a ./a", "plain x10000.ppm x000.ppm x",
+    "plain y0001.ppm p x", "plain a a a", "upgrade a ./a", "walk s p x --settled", "walk --settled s --journal j p x",
+    "walk s p x --frames=3 --samplers 1 --loaders=1", "walk s p x --pinned 2 --batch 1", "walk -- --settled p x", "walk s s s",
+    "walk    --journal=-", "walk s p x --journal=", "walk s p x --frames 65535 --samplers 64",
+    "walk s p x --loaders=16 --batch=4096 --pinned=16", "walk s p x --frames 1 --samplers 1", "walk x10000.ppm x000.ppm x",
+    "walk s p x --journal ./s", "replay s s j s", "replay -- -s -p -j -x", "replay s p ./s x", "plain t p x --filter bilinear",
+    "plain --filter=bilinear t p x --tile 2", "plain t p x --filter nearest", "replay s p j x --filter bilinear",
+    "replay --filter nearest s p j x", "walk s p x --filter bilinear", "walk s p x --settled --filter=bilinear",
+    "walk s p x --filter nearest --settled", "walk s p x --rows shared", "walk --rows=shared s p x --settled", "walk s p x --rows dealt",
+    "walk s p x --filter nearest --rows shared", "walk s p x --rows dealt --filter bilinear", "walk s p x --table swap",
+    "walk --table=swap s p x --settled", "walk s p x --table words", "walk s p x --rows dealt --filter nearest --table swap",
+    "walk s p x --table words --rows shared", "walk s p x --table words --filter bilinear",
 ]
 
 # A journal of the store g4.vts, and how many pictures it gives or why it is refused.

@@ -26,13 +26,6 @@ pub fn sink_failing_at(alloc: Global, put: u64) -> Result<MemorySink, NoMemory> 
     Ok(MemorySink::new(alloc, Fails::from_slice(alloc, &[Fail::Put(put)])?))
 }
 
-/// A front and the lines behind it.
-pub fn joined(alloc: Global, front: &str, lines: &str) -> Result<String, AllocError> {
-    let mut text = String::from_str(alloc, front)?;
-    text.push_str(lines)?;
-    Ok(text)
-}
-
 /// A front, one byte so many times, and what follows it.
 pub fn around(
     alloc: Global,

@@ -1,6 +1,5 @@
 //! Images and pictures in files in memory.
 
-mod foreign;
 mod looks;
 mod readers;
 mod strips;
@@ -10,7 +9,7 @@ use looks::{Look, misseen, mistold, reads, sees};
 use readers::Reader;
 use std::alloc::Global;
 use vt_outside::Fail;
-use vt_ppm::{PpmError, encode, encode_wide};
+use vt_ppm::{PpmError, encode, encode_wide, image_flaw};
 
 #[test]
 fn a_header_is_looked_for_in_one_place(rt: HostRuntime) {
@@ -104,4 +103,11 @@ fn a_texel_of_either_depth_has_its_word(rt: HostRuntime) {
         ),
     ];
     no_row_is_wrong(&rt, misseen(&rt, rt.alloc(), &ROWS));
+}
+
+#[test]
+fn an_image_has_no_flaw_or_its_first(rt: HostRuntime) {
+    let short = PpmError::Truncated { want: 3, have: 2 };
+    assert!(rt; image_flaw(b"P6 1 1 255\nabc").is_none());
+    assert!(rt; image_flaw(b"P6 1 1 255\nab") == Some(short));
 }

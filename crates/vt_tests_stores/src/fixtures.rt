@@ -35,11 +35,6 @@ pub const WIDE_TEXTURE: [u8; 103] = [
     0, 21, 0, 22, 0, 22, 0, 22, 0, 23, 0, 23, 0, 23, 0, 24, 0, 24, 0, 24,
 ];
 
-/// Looks that no row of a table is wrong; where one is, the failure names the first.
-pub fn no_row_is_wrong(rt: &impl Abort, wrong: Option<usize>) {
-    assert_eq!(rt; wrong, None);
-}
-
 /// Looks that something holds.
 pub fn holds(rt: &impl Abort, it: bool) {
     assert!(rt; it);

@@ -1,4 +1,4 @@
-//! The tests of the crates that make mip chains and tile stores, of drawing over them, and of reading words. It holds
+//! The tests of the crates that make mip chains and tile stores, of drawing over them, and of the names of pictures. It holds
 //! nothing else, and nothing depends on it: a crate with tests is proved twice, and this one costs nothing beside them.
 #![tactic(auto)]
 
@@ -9,6 +9,6 @@ mod fixtures;
 #[cfg(test)]
 mod mip;
 #[cfg(test)]
-mod store;
+mod names;
 #[cfg(test)]
-mod words;
+mod store;

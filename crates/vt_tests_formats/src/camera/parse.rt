@@ -1,7 +1,5 @@
 //! Paths and their pictures.
 
-mod foreign;
-
 use super::{Seen, other_camera};
 use crate::fixtures::no_row_is_wrong;
 use vt_camera::{Camera, path_flaw_is_unique, path_has_no_flaw, path_is_unique};
