@@ -46,6 +46,14 @@ left_by Gone = no_pass
 left_by (Resting p) = p.view
 left_by (Holding h) = idle h.view
 
+-- it holds a version
+abbrev pub HoldsOne : ReaderView → Type 0
+HoldsOne v = (held : HeldValue) × (v.stand ≡ Holding held)
+
+-- it holds none
+abbrev pub HoldsNone : ReaderView → Type 0
+HoldsNone v = (pass : PassValue) × (v.stand ≡ Resting pass)
+
 -- it has taken hold of the newest version
 pub record HasTakenHold (v w : ReaderView) (version : ℕ) : Type 0 where
   pub pass : PassValue

@@ -11,7 +11,7 @@ ghost use Rattle.vt_grace.specs.Tokens.{IsPassOf, IsHeldOf};
 ghost use Rattle.vt_lookup.specs.Notes.{Fits, IsNotedIn, HasNotedMore};
 ghost use Rattle.vt_texel_runs.specs.Points.{IsPoint, AreAnswered};
 ghost use Rattle.vt_texel_runs.specs.Blends.{AreBlendsAlong};
-ghost use Rattle.vt_shared.specs.Readers.{left_by, HasTakenHold, HasReleased, HasLookedUp, HasRead, HasReadRun, HasBlendedRun};
+ghost use Rattle.vt_shared.specs.Readers.{left_by, HoldsOne, HoldsNone, HasTakenHold, HasReleased, HasLookedUp, HasRead, HasReadRun, HasBlendedRun};
 ghost use Rattle.vt_texel_runs.specs.Spans.{IsRun, AreSpanned, AreWanted};
 ghost use Rattle.vt_shared.specs.declared.reader.Stand.TheVariants.{Resting};
 
@@ -212,6 +212,7 @@ impl Reader {
     pub fn hold(&mut self) -> Option<u64>
         ensures held { IfSome result (HasTakenHold self.old self.new) }
         ensures none { IfNone result (self.new ≡ self.old) }
+        ensures already { IfNone result (HoldsOne self.old) }
     {
         match mem::replace(&mut self.stand, Stand::Gone) {
             Stand::Resting(pass) => {
@@ -220,26 +221,28 @@ impl Reader {
                 self.stand = Stand::Holding(held);
                 Some(version)
             }
-            other => {
-                self.stand = other;
+            Stand::Holding(held) => {
+                self.stand = Stand::Holding(held);
                 None
             }
+            Stand::Gone => unreachable!(),
         }
     }
 
     /// Holds its version no longer. False where it holds none.
     pub fn release(&mut self) -> bool
-        ensures { MatchBool result (HasReleased self.old self.new) (self.new ≡ self.old) }
+        ensures { MatchBool result (HasReleased self.old self.new) ((self.new ≡ self.old) × HoldsNone self.old) }
     {
         match mem::replace(&mut self.stand, Stand::Gone) {
             Stand::Holding(held) => {
                 self.stand = Stand::Resting(held.unpin(&*self.words));
                 true
             }
-            other => {
-                self.stand = other;
+            Stand::Resting(pass) => {
+                self.stand = Stand::Resting(pass);
                 false
             }
+            Stand::Gone => unreachable!(),
         }
     }
 
@@ -248,6 +251,7 @@ impl Reader {
         requires { page < pages_of self.old.shape }
         ensures found { IfSome result (HasLookedUp self.old self.new page) }
         ensures none { IfNone result (self.new ≡ self.old) }
+        ensures holds_none { IfNone result (HoldsNone self.old) }
     {
         match mem::replace(&mut self.stand, Stand::Gone) {
             Stand::Holding(held) => {
@@ -255,10 +259,11 @@ impl Reader {
                 self.stand = Stand::Holding(held);
                 Some(found)
             }
-            other => {
-                self.stand = other;
+            Stand::Resting(pass) => {
+                self.stand = Stand::Resting(pass);
                 None
             }
+            Stand::Gone => unreachable!(),
         }
     }
 
@@ -268,6 +273,7 @@ impl Reader {
         requires points { All (IsPoint self.old.shape) points.now }
         requires room { length out.old ≡ texel_length self.old.depth * length points.now }
         ensures read { MatchBool result (HasRead self.old self.new points.now out.new) ((self.new ≡ self.old) × (out.new ≡ out.old)) }
+        ensures holds_none { MatchBool result (Unit {0}) (HoldsNone self.old) }
         ensures long { length out.new ≡ length out.old }
     {
         match mem::replace(&mut self.stand, Stand::Gone) {
@@ -276,10 +282,11 @@ impl Reader {
                 self.stand = Stand::Holding(held);
                 true
             }
-            other => {
-                self.stand = other;
+            Stand::Resting(pass) => {
+                self.stand = Stand::Resting(pass);
                 false
             }
+            Stand::Gone => unreachable!(),
         }
     }
 
@@ -291,6 +298,7 @@ impl Reader {
         requires pages { length pages.old ≡ span.now.count }
         ensures read { MatchBool result (HasReadRun self.old self.new span.now out.new pages.new)
             ((self.new ≡ self.old) × (out.new ≡ out.old) × (pages.new ≡ pages.old)) }
+        ensures holds_none { MatchBool result (Unit {0}) (HoldsNone self.old) }
         ensures long { length out.new ≡ length out.old }
         ensures wide { length pages.new ≡ length pages.old }
     {
@@ -308,10 +316,11 @@ impl Reader {
                 self.stand = Stand::Holding(held);
                 true
             }
-            other => {
-                self.stand = other;
+            Stand::Resting(pass) => {
+                self.stand = Stand::Resting(pass);
                 false
             }
+            Stand::Gone => unreachable!(),
         }
     }
 
@@ -323,6 +332,7 @@ impl Reader {
         requires pages { length pages.old ≡ span.now.count }
         ensures read { MatchBool result (HasBlendedRun self.old self.new span.now out.new pages.new)
             ((self.new ≡ self.old) × (out.new ≡ out.old) × (pages.new ≡ pages.old)) }
+        ensures holds_none { MatchBool result (Unit {0}) (HoldsNone self.old) }
         ensures long { length out.new ≡ length out.old }
         ensures wide { length pages.new ≡ length pages.old }
     {
@@ -340,10 +350,11 @@ impl Reader {
                 self.stand = Stand::Holding(held);
                 true
             }
-            other => {
-                self.stand = other;
+            Stand::Resting(pass) => {
+                self.stand = Stand::Resting(pass);
                 false
             }
+            Stand::Gone => unreachable!(),
         }
     }
 

@@ -8,7 +8,7 @@ use Rattle.vt_residency.specs.declared.places.Place.{Place}
 use Rattle.vt_texel_runs.specs.declared.points.Point.{Point}
 use Rattle.vt_texel_runs.specs.declared.spans.Span.{Span}
 use Rattle.vt_texel_runs.specs.Points.{IsPoint}
-use Rattle.vt_shared.specs.Readers.{ReaderView, HasTakenHold, HasReleased, HasLookedUp, HasRead, HasReadRun, HasBlendedRun}
+use Rattle.vt_shared.specs.Readers.{ReaderView, HoldsOne, HoldsNone, HasTakenHold, HasReleased, HasLookedUp, HasRead, HasReadRun, HasBlendedRun}
 use Rattle.vt_texel_runs.specs.Spans.{IsRun}
 use Rattle.vtex_c.specs.declared.reader.ReaderPlace.{ReaderPlace}
 
@@ -38,6 +38,7 @@ pub record IsHeld (old : ReaderPlace) (before status version : ℕ) (new : Reade
   pub same : (status ≡ 0 → ⊥) → new ≡ old
   pub kept : (status ≡ 0 → ⊥) → version ≡ before
   pub closed : status ≡ 4 → old.inner ≡ None
+  pub held_already : status ≡ 7 → Holding HoldsOne old.inner
 
 -- what was found, as the table below says it
 abbrev pub found_in : Place → Found
@@ -52,6 +53,7 @@ pub record IsFoundUnder (old : ReaderPlace) (page : ℕ) (before : Place) (statu
   pub same : (status ≡ 0 → ⊥) → new ≡ old
   pub kept : (status ≡ 0 → ⊥) → after ≡ before
   pub closed : status ≡ 4 → old.inner ≡ None
+  pub held_none : status ≡ 7 → Holding HoldsNone old.inner
 
 -- the points are the texture's, and the room is as long as their texels
 pub record AreFit (points : List Point) (bytes : ℕ) (r : ReaderView) : Type 0 where
@@ -69,6 +71,7 @@ pub record IsRead (old : ReaderPlace) (points : List Point) (before : List ℕ) 
   pub same : (status ≡ 0 → ⊥) → new ≡ old
   pub kept : (status ≡ 0 → ⊥) → after ≡ before
   pub closed : status ≡ 4 → old.inner ≡ None
+  pub held_none : status ≡ 7 → Holding HoldsNone old.inner
 
 -- the points of a run are the texture's, the room is as long as its texels, and there is a page for each
 pub record IsFit (span : Span) (bytes pages : ℕ) (r : ReaderView) : Type 0 where
@@ -88,6 +91,7 @@ pub record IsRunReadBy (Reads : ReaderView → ReaderView → Span → List ℕ 
   pub same : (status ≡ 0 → ⊥) → new ≡ old
   pub kept : (status ≡ 0 → ⊥) → (after ≡ before) × (are ≡ was)
   pub closed : status ≡ 4 → old.inner ≡ None
+  pub held_none : status ≡ 7 → Holding HoldsNone old.inner
 
 -- by the nearest texels
 abbrev pub IsRunRead : ReaderPlace → Span → List ℕ → List ℕ → ℕ → List ℕ → List ℕ → ReaderPlace → Type 0
@@ -103,6 +107,7 @@ pub record IsReleased (old : ReaderPlace) (status : ℕ) (new : ReaderPlace) : T
   pub released : status ≡ 0 → Between HasReleased old.inner new.inner
   pub same : (status ≡ 0 → ⊥) → new ≡ old
   pub closed : status ≡ 4 → old.inner ≡ None
+  pub held_none : status ≡ 7 → Holding HoldsNone old.inner
 
 -- a reader was closed: 0
 pub record IsShut (old : ReaderPlace) (status : ℕ) (new : ReaderPlace) : Type 0 where
