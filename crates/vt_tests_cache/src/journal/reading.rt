@@ -9,9 +9,6 @@ use vt_pages::Geometry;
 // The line of the one pinned page.
 const HEAD: &str = "map 1 1 0 0 0\n";
 
-// That line, and the one that begins the first pass.
-const BEGUN: &str = "map 1 1 0 0 0\npass 1 picture 0 start 1\n";
-
 // How many passes a text tells.
 fn passes_of(alloc: Global, text: &[u8]) -> Result<u32, JournalError> {
     let Ok(geometry) = Geometry::new(4, 4, 2) else {
@@ -62,20 +59,8 @@ fn misread(
 
 #[test]
 fn a_text_ends_after_a_whole_head_or_a_whole_pass(rt: HostRuntime) {
-    const ROWS: [(&str, Result<u32, JournalError>); 16] = [
+    const ROWS: [(&str, Result<u32, JournalError>); 4] = [
         ("", BAD1),
-        ("map 1 1 0 0 0\n", Ok(0)),
-        ("map 1 1 0 0 0", BAD1),
-        ("map 1 1 0 0 1\n", BAD1),
-        ("map 2 1 0 0 0\n", BAD1),
-        ("map 1 0 0 0 65535\n", BAD1),
-        ("map 01 1 0 0 0\n", BAD1),
-        ("map 1  1 0 0 0\n", BAD1),
-        ("map 1 1 0 0 0 \n", BAD1),
-        ("map 1 1 0 0 0\r\n", BAD1),
-        ("map 1 0 1 1 0\n", BAD2),
-        ("map 1 0 1 1 0\npass 1 picture 0 start 1\n", BAD2),
-        ("map 1 0 0 1 0\nmap 2 1 0 0 1\n", BAD2),
         ("map 1 0 1 1 0\nmap 2 1 0 0 1\n", Ok(0)),
         (LOST_TILE, Ok(4)),
         (SETTLED, Ok(4)),
@@ -84,45 +69,14 @@ fn a_text_ends_after_a_whole_head_or_a_whole_pass(rt: HostRuntime) {
 }
 
 #[test]
-fn a_line_that_may_not_follow_the_head_is_refused(rt: HostRuntime) {
-    const ROWS: [(&str, Result<u32, JournalError>); 7] = [
-        ("pass 2 picture 0 start 1\n", BAD2),
-        ("pass 1 picture 1 start 1\n", BAD2),
-        ("pass 1 picture 0 start 0\n", BAD2),
-        ("map 2 0 0 0 1\n", BAD2),
+fn a_line_that_may_not_follow_is_refused(rt: HostRuntime) {
+    const ROWS: [(&str, Result<u32, JournalError>); 4] = [
         ("row 0 0 1\n", BAD2),
-        ("lost 0 0 0\n", BAD2),
-        ("\n", BAD2),
+        ("pass 1 picture 0 start 1\nrow 0 0 2\n", BAD3),
+        ("pass 1 picture 0 start 1\nrow 0 0 1\nmap 2 0 0 0 1\n", BAD4),
+        ("pass 1 picture 0 start 1\nrow 0 63 1\n", Ok(1)),
     ];
     no_row_is_wrong(&rt, misread(rt.alloc(), HEAD, &ROWS));
-}
-
-#[test]
-fn a_line_that_may_not_follow_the_begin_of_a_pass_is_refused(rt: HostRuntime) {
-    const ROWS: [(&str, Result<u32, JournalError>); 21] = [
-        ("", BAD3),
-        ("row 0 0 1\n", Ok(1)),
-        ("row 0 63 1\n", Ok(1)),
-        ("row 0 0 2\n", BAD3),
-        ("row 0 0 0\n", BAD3),
-        ("row 0 64 1\n", BAD3),
-        ("row 1 0 1\n", BAD3),
-        ("row 0 0 1\nrow 1 0 1\n", BAD4),
-        ("unmap 2 1 0 0 0\n", BAD3),
-        ("unmap 2 0 0 0 1\n", BAD3),
-        ("lost 1 0 0\n", BAD3),
-        ("map 2 0 0 0 0\n", BAD3),
-        ("map 2 0 2 0 1\n", BAD3),
-        ("map 3 0 0 0 1\n", BAD3),
-        ("map 2 1 0 0 1\n", BAD3),
-        ("map 2 0 0 0 65535\n", BAD3),
-        ("map 2 0 0 0 65534\nrow 0 0 1\n", Ok(1)),
-        ("map 2 0 0 0 1\nlost 0 0 0\n", BAD4),
-        ("row 0 0 1\nmap 2 0 0 0 1\n", BAD4),
-        ("row 0 0 1\npass 2 picture 1 start 1\nrow 0 0 1\n", Ok(2)),
-        ("row 0 0 1\npass 2 picture 2 start 1\n", BAD4),
-    ];
-    no_row_is_wrong(&rt, misread(rt.alloc(), BEGUN, &ROWS));
 }
 
 // How many passes the front of the journal of a lost tile tells that ends at a place of this line.
