@@ -7,10 +7,7 @@ ghost use Rattle.vt_command_words.specs.Numbers.{number_between, number_of, side
 
 use crate::arguments::text;
 use clap::ArgMatches;
-use vt_text::decimal;
-
-// The largest side of a tile.
-const MOST_TILE_SIDE: u32 = 128;
+use vt_text::{MOST_TILE_SIDE, decimal, is_tile_side};
 
 /// The greatest number of a texture that is made from one.
 pub const MOST_NUMBER: u32 = 65535;
@@ -41,10 +38,4 @@ fn number_between(field: &str, least: u32, most: u32) -> Option<u32>
         Ok(number) => Some(number as u32),
         Err(_) => None,
     }
-}
-
-fn is_tile_side(side: u32) -> bool
-    ensures { result ≡ is_tile_side side }
-{
-    matches!(side, 2 | 4 | 8 | 16 | 32 | 64 | 128)
 }

@@ -1,8 +1,9 @@
-//! The definitions that several crates cite, the laws about them, and the texels of bytes.
+//! The definitions that several crates cite, the laws about them, the sides of tiles, and the texels of bytes.
 #![tactic(auto)]
 
 mod depths;
 mod sides;
+mod tiles;
 
 pub use depths::{
     bytes_make_their_word, greatest_sample, put_sample, put_word, sample_at, texel_length,
@@ -10,3 +11,4 @@ pub use depths::{
     words_have_their_samples, words_of_bytes_are_small,
 };
 pub use sides::{level_count_is_least, level_count_is_one, side_is_positive};
+pub use tiles::{MOST_TILE_SIDE, is_tile_side};

@@ -64,7 +64,7 @@ fn raster_row(samples: &[u8], size: usize, y: usize) -> &[u8]
 }
 
 impl Chain {
-    /// Builds the chain of a texture for a tile side of 2, 4, 8, 16, 32, 64 or 128. Refused only where memory is.
+    /// Builds the chain of a texture for a tile side. Refused only where memory is.
     pub fn build<Rt: Threads + Sync>(
         rt: &Rt,
         alloc: Global,

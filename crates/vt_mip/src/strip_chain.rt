@@ -164,7 +164,7 @@ fn level_row<F: File>(
 }
 
 impl<F: File> StripChain<F> {
-    /// Makes the chain of a texture whose samples were looked over, for a tile side of 2, 4, 8, 16, 32, 64 or 128. It makes no
+    /// Makes the chain of a texture whose samples were looked over, for a tile side. It makes no
     /// read. Refused only where memory is; the refusal hands the file back.
     pub fn new(
         alloc: Global,

@@ -2,6 +2,7 @@ pub use Rattle.vt_definitions.proofs.TexelWords
 pub use Rattle.vt_definitions.proofs.Words
 pub mod Counts
 pub mod Making
+pub mod Shifts
 pub mod Names
 pub mod Lines
 pub mod Pinned

@@ -16,7 +16,7 @@ ghost use Rattle.vt_pages.specs.Laws.{AreInverse, ReachesRoot, PlacesNest, Lines
 use std::marker::Model;
 use tables::{Tables, last_level, make_tables, tile_shift};
 use thiserror::Error;
-pub use vt_definitions::{put_word, texel_length};
+pub use vt_definitions::{is_tile_side, put_word, texel_length};
 
 /// The largest side of a texture, in texels.
 pub const MOST_SIDE: u32 = 16_384;
@@ -41,7 +41,7 @@ pub struct PageName {
 /// Why sides and a tile side make no geometry. The first limit that is broken, in this order, is named.
 #[derive(Clone, Copy, Debug, PartialEq, Eq, Error)]
 pub enum PagesError {
-    /// The tile side is not a power of two from 2 to 128.
+    /// The number is no tile side (`is_tile_side`).
     #[error("bad tile side")]
     BadTile,
     /// A side of the texture is 0 or above `MOST_SIDE`.
@@ -111,9 +111,8 @@ fn are_texture_sides(width: u32, height: u32) -> bool
 impl Geometry {
     /// The geometry of a texture of `width` by `height` texels in tiles of `tile` by `tile`.
     ///
-    /// `BadTile` comes for a tile side that is not one of 2, 4, 8, 16, 32, 64 and 128; else `BadSide` for
-    /// a side that is not from 1 to `MOST_SIDE`; else `TooManyPages` for a chain of more than
-    /// `MOST_PAGES` pages.
+    /// `BadTile` comes for a number that is no tile side; else `BadSide` for a side that is not from 1 to `MOST_SIDE`; else
+    /// `TooManyPages` for a chain of more than `MOST_PAGES` pages.
     pub fn new(width: u32, height: u32, tile: u32) -> Result<Geometry, PagesError>
         ensures ok { IfOk result (λ g. g ≡ shape_of width height tile) }
         ensures limits { OnOk result (IsWithinLimits (shape_of width height tile)) }
@@ -160,7 +159,7 @@ impl Geometry {
         self.height
     }
 
-    /// The side of a tile in texels, a power of two from 2 to 128.
+    /// The side of a tile in texels.
     pub fn tile(&self) -> u32
         ensures tile { result ≡ self.now.tile }
         ensures limits { IsWithinLimits self.now }

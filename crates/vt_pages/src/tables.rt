@@ -7,6 +7,7 @@ ghost use Rattle.vt_pages.specs.Shape.{shape_of};
 ghost use Rattle.vt_pages.specs.Tables.{IsTabled, IsTileShift, IsFirstFit};
 
 use crate::MOST_LEVELS;
+use vt_definitions::is_tile_side;
 
 /// For each level its first page, its columns and rows of pages, and its sides in texels.
 #[derive(Clone, Copy)]
@@ -18,19 +19,14 @@ pub struct Tables {
     pub heights: [u32; MOST_LEVELS],
 }
 
-/// The exponent of a tile side, a power of two from 2 to 128; `None` for any other number.
+/// The exponent of a tile side as a power of two; `None` for any other number.
 pub fn tile_shift(tile: u32) -> Option<u32>
     ensures { MatchOption result (is_tile_side tile ≡ false) (IsTileShift tile) }
 {
-    match tile {
-        2 => Some(1),
-        4 => Some(2),
-        8 => Some(3),
-        16 => Some(4),
-        32 => Some(5),
-        64 => Some(6),
-        128 => Some(7),
-        _ => None,
+    if is_tile_side(tile) {
+        Some(tile.trailing_zeros())
+    } else {
+        None
     }
 }
 

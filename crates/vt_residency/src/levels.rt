@@ -2,6 +2,7 @@
 
 ghost use Rattle.std.specs.Prelude.{◌≡◌, ◌+◌, ◌-◌, ◌*◌, ◌/◌, ◌<◌, ◌≤◌, length};
 ghost use Rattle.std.specs.Bool.{MatchBool};
+ghost use Rattle.vt_pages.specs.Limits.{most_tile_side, most_tiled_side};
 ghost use Rattle.vt_pages.specs.Pages.{IsWithinLimits, levels_of, pages_of};
 ghost use Rattle.vt_residency.specs.Levels.{IsLevelOf, IsLevelTable, HasLevelLength};
 
@@ -20,8 +21,8 @@ pub struct Level {
 
 // How many tiles cover a side.
 fn tiles_over(side: u32, tile: u32) -> u32
-    requires side { side ≤ 16384 }
-    requires tile { tile ≤ 128 }
+    requires side { side ≤ most_tiled_side }
+    requires tile { tile ≤ most_tile_side }
     requires some { 1 ≤ tile }
     ensures { result ≡ (side + tile - 1) / tile }
 {

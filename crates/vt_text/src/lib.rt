@@ -14,7 +14,7 @@ pub use numbers::{decimal, put_number};
 pub use pieces::{put_pieces, tell_pieces};
 pub use place::{Place, tell_bad_input, tell_place};
 use thiserror::Error;
-pub use vt_definitions::word_in;
+pub use vt_definitions::{MOST_TILE_SIDE, is_tile_side, word_in};
 pub use vt_outside::{Items, NoMemory};
 
 /// Why a field was not read as a number.

@@ -41,7 +41,7 @@ pub struct PlainWords<'a> {
     pub path: &'a str,
     /// What the pictures' names begin with; neither the texture's name nor the path's is that of a picture.
     pub prefix: &'a str,
-    /// The tile side, one of 2, 4, 8, 16, 32, 64 and 128.
+    /// The tile side.
     pub tile: u32,
     /// How the pixels are made of texels.
     pub filter: Filtering,

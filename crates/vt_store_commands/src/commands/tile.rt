@@ -36,7 +36,7 @@ pub struct TileWords<'a> {
     pub texture: &'a str,
     /// The store's name, which is another.
     pub store: &'a str,
-    /// The tile side, one of 2, 4, 8, 16, 32, 64 and 128.
+    /// The tile side.
     pub tile: u32,
 }
 
