@@ -38,18 +38,15 @@ const MOST_PICTURES: u32 = 9999;
 
 /// Why a text was not read as a path. Lines count from 1.
 #[derive(Clone, Copy, Debug, PartialEq, Eq, Error)]
+#[error("the path was not read")]
 pub enum PathError {
     /// The line has none of the forms that it may have there, or the text ends before it.
-    #[error("bad line {line}")]
     BadLine { line: u32 },
     /// The line goes on from a key, and there is none before it.
-    #[error("no key at line {line}")]
     NoKey { line: u32 },
     /// The lines give more than 9999 pictures.
-    #[error("too many pictures")]
     TooManyPictures,
     /// There was no memory for the cameras.
-    #[error("out of memory")]
     NoMemory,
 }
 

@@ -22,12 +22,11 @@ use vt_text::NoMemory;
 
 /// Why a text was not read as a journal. Lines count from 1.
 #[derive(Clone, Copy, Debug, PartialEq, Eq, Error)]
+#[error("the journal was not read")]
 pub enum JournalError {
     /// The line is not allowed there, or the text ends before it.
-    #[error("bad line {line}")]
     BadLine { line: u32 },
     /// There was no memory for what the text tells.
-    #[error("out of memory")]
     NoMemory,
 }
 

@@ -17,6 +17,7 @@ same_side t m is h =
     subst (λ (n : ℕ). IsTileShift n (count_trailing_zeros 32 n)) e is
 
 pub shift_of : (t : ℕ) → is_tile_side t ≡ true → IsTileShift t (count_trailing_zeros 32 t)
+unfolding count_trailing_zeros
 shift_of t =
     either _ _ _ (either _ _ _ (either _ _ _ (either _ _ _ (either _ _ _ (either _ _ _
     (same_side t 2 (record { lawful = refl; exponent = refl; power = refl; shift_inside = omega arith; least = omega arith; most = omega arith }))

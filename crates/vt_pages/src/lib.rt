@@ -40,15 +40,13 @@ pub struct PageName {
 
 /// Why sides and a tile side make no geometry. The first limit that is broken, in this order, is named.
 #[derive(Clone, Copy, Debug, PartialEq, Eq, Error)]
+#[error("the sides make no geometry")]
 pub enum PagesError {
     /// The number is no tile side (`is_tile_side`).
-    #[error("bad tile side")]
     BadTile,
     /// A side of the texture is 0 or above `MOST_SIDE`.
-    #[error("bad side")]
     BadSide,
     /// The chain has more than `MOST_PAGES` pages.
-    #[error("too many pages: {pages}")]
     TooManyPages {
         /// How many pages the chain would have.
         pages: u64,

@@ -6,32 +6,25 @@ use vt_outside::{Failed, NoMemory};
 
 /// Why an image was not read.
 #[derive(Clone, Copy, Debug, PartialEq, Eq, Error)]
+#[error("the image was not read")]
 pub enum PpmError {
     /// The first two bytes are not `P6`.
-    #[error("bad magic")]
     BadMagic,
     /// Some header begins as the first `at` bytes do, and none as those and the byte behind them do. Where no byte is
     /// wrong so, `at` is how many bytes there are, or how many a header may have.
-    #[error("bad header at byte {at}")]
     BadHeader { at: u64 },
     /// A side is 0, or above the limit: 8,192 for an image that is read whole, and 16,384 for a texture that is read by rows
     /// and for a header alone.
-    #[error("bad size")]
     BadSize,
     /// The maximum is 0 or above 65,535.
-    #[error("bad maximum")]
     BadMaximum,
     /// `have` bytes follow the header, and the raster has `want`.
-    #[error("raster of {have} bytes, wanted {want}")]
     Truncated { want: u64, have: u64 },
     /// A sample is above the maximum; the first such one begins at byte `at` of the file.
-    #[error("sample over maximum at byte {at}")]
     SampleOver { at: u64 },
     /// A call on the file failed.
-    #[error("fault on the file")]
     Failed,
     /// Memory was refused.
-    #[error("out of memory")]
     NoMemory,
 }
 

@@ -8,15 +8,13 @@ use vt_outside::{NoMemory, OutsideError};
 
 /// Why a journal was not replayed. Lines count from 1.
 #[derive(Clone, Copy, Debug, PartialEq, Eq, Error)]
+#[error("the journal was not replayed")]
 pub enum ReplayError {
     /// The line is the first that the journal's reader refuses or that names a picture that the path has not.
-    #[error("bad line {line}")]
     BadJournal { line: u32 },
     /// A call on the folder or on the store's file failed.
-    #[error("fault on files")]
     Failed,
     /// Memory was refused.
-    #[error("out of memory")]
     NoMemory,
 }
 

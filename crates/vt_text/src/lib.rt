@@ -13,17 +13,14 @@ pub use lines::{field, next_line};
 pub use numbers::{decimal, put_number};
 pub use pieces::{put_pieces, tell_pieces};
 pub use place::{Place, tell_bad_input, tell_place};
-use thiserror::Error;
 pub use vt_definitions::{MOST_TILE_SIDE, is_tile_side, word_in};
 pub use vt_outside::{Items, NoMemory};
 
 /// Why a field was not read as a number.
-#[derive(Clone, Copy, Debug, PartialEq, Eq, Error)]
+#[derive(Clone, Copy, Debug, PartialEq, Eq)]
 pub enum TextError {
     /// The field does not spell a number: it is neither `0` nor an optional `-` and digits that begin with 1 to 9.
-    #[error("not a decimal number")]
     NotDecimal,
     /// The field spells a number outside the bounds.
-    #[error("number out of range")]
     OutOfRange,
 }

@@ -7,21 +7,17 @@ use vt_outside::{Failed, NoMemory, OutsideError};
 
 /// Why a store was not opened or not written.
 #[derive(Clone, Copy, Debug, PartialEq, Eq, Error)]
+#[error("the store was not opened or not written")]
 pub enum StoreError {
     /// The first four bytes are neither `VTS1` nor `VTS2`.
-    #[error("bad magic")]
     BadMagic,
     /// The header's three numbers make no geometry of pages.
-    #[error("bad geometry")]
     BadGeometry,
     /// The file has `have` bytes, and its header or its store has `want`.
-    #[error("length {have}, wanted {want}")]
     WrongLength { want: u64, have: u64 },
     /// A call on the outside failed.
-    #[error("fault on the file")]
     Failed,
     /// Memory was refused.
-    #[error("out of memory")]
     NoMemory,
 }
 

@@ -7,25 +7,22 @@ use vt_outside::{NoMemory, OutsideError};
 
 /// Why a walk was refused.
 #[derive(Clone, Copy, Debug, PartialEq, Eq, Error)]
+#[error("the walk was refused")]
 pub enum WalkError {
     /// There are `frames` frames, and `needed` pages are pinned.
-    #[error("{frames} frames, pinned pages need {needed}")]
     TooFewFrames {
         frames: u32,
         needed: u32,
     },
     /// In a settled walk the picture needs `wanted` unpinned pages at once, and there is room for `room`.
-    #[error("picture {picture} wants {wanted} pages, room for {room}")]
     DoesNotFit {
         picture: u32,
         wanted: u32,
         room: u32,
     },
     /// A call on the folder, its files or the output failed, or a tile of a settled walk was lost.
-    #[error("fault on files or output")]
     Failed,
     /// Memory was refused.
-    #[error("out of memory")]
     NoMemory,
 }
 
