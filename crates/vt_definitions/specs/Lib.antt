@@ -1,3 +1,4 @@
+pub mod Dealing
 pub mod Depths
 pub mod Limits
 pub mod Numbers

@@ -9,5 +9,5 @@ pub use kit::StreamKit;
 pub use room::{reserve_reads, with_room};
 pub use round::{RoundKit, blank_report, new_queues};
 pub use vt_requests::{
-    Batch, Crew, PassMachine, PassReport, Planned, Task, answered, sampler_of, work_together,
+    Batch, Crew, PassMachine, PassReport, Planned, Task, answered, work_together,
 };

@@ -9,7 +9,6 @@ mod laws;
 mod machine;
 mod task;
 mod threads;
-mod turns;
 mod work;
 
 pub use crew::{Crew, PassReport};
@@ -19,7 +18,6 @@ pub use laws::{
 };
 pub use machine::PassMachine;
 pub use task::Task;
-pub use turns::sampler_of;
 pub use vt_evict::{Batch, Counts as FeedbackCounts, Losses, Planned};
 pub use vt_pictures::{Events, Journal, Path, RowLines, Shot};
 pub use work::work_together;

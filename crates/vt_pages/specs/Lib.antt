@@ -1,3 +1,4 @@
+pub use Rattle.vt_definitions.specs.Dealing
 pub use Rattle.vt_definitions.specs.Depths
 pub use Rattle.vt_definitions.specs.Limits
 pub use Rattle.vt_definitions.specs.Numbers

@@ -12,5 +12,5 @@ pub use report::StreamReport;
 pub use rounds::rounds_are_passes;
 pub use vt_machine::{
     Batch, Crew, Events, FeedbackCounts as Counts, Losses, PassMachine, PassReport, Planned, Shot,
-    Task, sampler_of, work_together,
+    Task, work_together,
 };

@@ -8,7 +8,7 @@ use Rattle.std.proofs.lemmas.Slice.{take-put_mid_below, between-put_mid}
 use Rattle.std.proofs.Math.ListN.{take, drop}
 use borrow.Rule.Slice.PartMut.{put_mid}
 use Rattle.vt_sampler.specs.Samplers.{row_in}
-use Rattle.vt_sampler.proofs.Quotients.{quotient_before, apart}
+use Rattle.vt_definitions.proofs.Quotients.{quotient_before, apart}
 
 -- what is before a piece that is written
 before_mid : (at k : ℕ) (xs ys : List ℕ) (i j : ℕ) → at ≤ length xs → i ≤ j → j ≤ at

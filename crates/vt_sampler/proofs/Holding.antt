@@ -8,7 +8,7 @@ use Rattle.vt_lookup.specs.GraceTypes.views.PassView.{PassView}
 use Rattle.vt_lookup.specs.PassViews.{NoneAbove}
 use Rattle.vt_lookup.specs.Notes.{HasHeldMore}
 use Rattle.vt_sampler.specs.Held.{WasHeld}
-use Rattle.vt_sampler.proofs.Quotients.{quotient_before, apart}
+use Rattle.vt_definitions.proofs.Quotients.{quotient_before, apart}
 
 -- a pass that has held nothing yet
 pub none_held : (p : PassView) → HasHeldMore p p []
@@ -64,37 +64,39 @@ own_cases n y z below own =
       | inr past ↦ elim (cases_lt y z) [ inl more ↦ absurd (omega (arith, apart n z y (sym own) more)) | inr last ↦ inr (omega arith) ]
     ]
 
-version_here : (n y z v : ℕ) (us : List ℕ) → y / n < length us → z ≡ y → slice_index (slice_set us (y / n) v) (z / n) ≡ v
-version_here n y z v us room same = ap (λ i. slice_index (slice_set us (y / n) v) (i / n)) same ∙ get_or-set_same us (y / n) v 0 room
+pub version_here : (n y turn z v : ℕ) (us : List ℕ) → y / n ≡ turn → turn < length us → z ≡ y → slice_index (slice_set us turn v) (z / n) ≡ v
+version_here n y turn z v us at room same = ap (λ i. slice_index (slice_set us turn v) (i / n)) same
+    ∙ ap (slice_index (slice_set us turn v)) at ∙ get_or-set_same us turn v 0 room
 
 -- the version of a row before the one whose version is set
-pub version_before : (n y z v : ℕ) (us : List ℕ) → z % n ≡ y % n → z < y → slice_index (slice_set us (y / n) v) (z / n) ≡ slice_index us (z / n)
-version_before n y z v us own less =
-    get_or-set_other us (y / n) (z / n) v 0 (λ same. omega (arith, same, quotient_before n y z own less))
+pub version_before : (n y turn z v : ℕ) (us : List ℕ) → y / n ≡ turn → z % n ≡ y % n → z < y
+    → slice_index (slice_set us turn v) (z / n) ≡ slice_index us (z / n)
+version_before n y turn z v us at own less =
+    get_or-set_other us turn (z / n) v 0 (λ same. omega (arith, same, at, quotient_before n y z own less))
 
 -- what holds of the versions of the rows so far, and of the next, holds of all
-pub versions_after : (P : ℕ → ℕ → Type 0) (n y v : ℕ) (us : List ℕ) → y / n < length us → P y v
+pub versions_after : (P : ℕ → ℕ → Type 0) (n y turn v : ℕ) (us : List ℕ) → y / n ≡ turn → turn < length us → P y v
     → ((z : ℕ) → z < y → z % n ≡ y % n → P z (slice_index us (z / n)))
-    → (z : ℕ) → z < y + n → z % n ≡ y % n → P z (slice_index (slice_set us (y / n) v) (z / n))
-versions_after P n y v us room here before z below own =
+    → (z : ℕ) → z < y + n → z % n ≡ y % n → P z (slice_index (slice_set us turn v) (z / n))
+versions_after P n y turn v us at room here before z below own =
     elim (own_cases n y z below own) [
-      | inl less ↦ subst (P z) (sym (version_before n y z v us own less)) (before z less own)
-      | inr same ↦ subst (P z) (sym (version_here n y z v us room same)) (subst (λ i. P i v) (sym same) here)
+      | inl less ↦ subst (P z) (sym (version_before n y turn z v us at own less)) (before z less own)
+      | inr same ↦ subst (P z) (sym (version_here n y turn z v us at room same)) (subst (λ i. P i v) (sym same) here)
     ]
 
 -- versions that rise from row to row still do after one that is not below them
-pub rising_after : (n y v : ℕ) (us : List ℕ) → y / n < length us → ((z : ℕ) → z < y → z % n ≡ y % n → slice_index us (z / n) ≤ v)
+pub rising_after : (n y turn v : ℕ) (us : List ℕ) → y / n ≡ turn → turn < length us → ((z : ℕ) → z < y → z % n ≡ y % n → slice_index us (z / n) ≤ v)
     → ((x z : ℕ) → z < y → x % n ≡ y % n → z % n ≡ y % n → x ≤ z → slice_index us (x / n) ≤ slice_index us (z / n))
     → (x z : ℕ) → z < y + n → x % n ≡ y % n → z % n ≡ y % n → x ≤ z
-    → slice_index (slice_set us (y / n) v) (x / n) ≤ slice_index (slice_set us (y / n) v) (z / n)
-rising_after n y v us room most rose x z below own_x own_z low =
+    → slice_index (slice_set us turn v) (x / n) ≤ slice_index (slice_set us turn v) (z / n)
+rising_after n y turn v us at room most rose x z below own_x own_z low =
     elim (own_cases n y z below own_z) [
       | inl less ↦
           let before : x < y = omega arith in
-          omega (arith, version_before n y z v us own_z less, version_before n y x v us own_x before, rose x z less own_x own_z low)
+          omega (arith, version_before n y turn z v us at own_z less, version_before n y turn x v us at own_x before, rose x z less own_x own_z low)
       | inr same ↦
           elim (own_cases n y x (omega arith) own_x) [
-            | inl before ↦ omega (arith, version_here n y z v us room same, version_before n y x v us own_x before, most x before own_x)
-            | inr here ↦ omega (arith, version_here n y z v us room same, version_here n y x v us room here)
+            | inl before ↦ omega (arith, version_here n y turn z v us at room same, version_before n y turn x v us at own_x before, most x before own_x)
+            | inr here ↦ omega (arith, version_here n y turn z v us at room same, version_here n y turn x v us at room here)
           ]
     ]

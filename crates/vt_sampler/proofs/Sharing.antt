@@ -14,8 +14,9 @@ use Rattle.vt_lookup.specs.Paths.{PathView, ArePictureSides}
 use Rattle.vt_lookup.specs.Rows.{RowView}
 use Rattle.vt_lookup.specs.Shots.{shot_row, wants_in_rows}
 use Rattle.vt_lookup.specs.FilterLaws.{WantsFew}
-use Rattle.vt_sampler.specs.Samplers.{own_rows, own_count, row_in}
-use Rattle.vt_sampler.proofs.Quotients.{apart, quotient_from, rest_small}
+use Rattle.vt_definitions.specs.Dealing.{own_count}
+use Rattle.vt_sampler.specs.Samplers.{own_rows, row_in}
+use Rattle.vt_definitions.proofs.Quotients.{apart, quotient_from, rest_small}
 
 range_more : (a n : ℕ) → range_with_len a (suc n) ≡ range_with_len a n ++ (a + n) ∷ []
 range_more a zero = ap (λ (m : ℕ). m ∷ []) (sym (add-zero a))

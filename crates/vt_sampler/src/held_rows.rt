@@ -1,7 +1,8 @@
 //! The rows of a sampler, each drawn under a hold of its own.
 
-ghost use Rattle.std.specs.Prelude.{◌≡◌, ℕ, ◌+◌, ◌*◌, ◌/◌, ◌%◌, ◌<◌, ◌≤◌, true, length, slice_index, reverse};
+ghost use Rattle.std.specs.Prelude.{◌≡◌, ℕ, ◌+◌, ◌*◌, ◌<◌, ◌≤◌, true, length, slice_index, reverse};
 ghost use Rattle.vt_definitions.specs.Limits.{most_samplers};
+ghost use Rattle.vt_definitions.specs.Dealing.{sampler_of, turn_of, own_count};
 ghost use Rattle.vt_definitions.specs.Depths.{IsDepth, texel_length};
 ghost use Rattle.vt_pages.specs.Pages.{pages_of};
 ghost use Rattle.vt_lookup.specs.Shots.{shot_row, wants_in_rows};
@@ -9,9 +10,9 @@ ghost use Rattle.vt_lookup.specs.Evidence.{AreShown};
 ghost use Rattle.vt_lookup.specs.Tokens.{IsPassOf};
 ghost use Rattle.vt_lookup.specs.Notes.{Fits, IsNotedIn, HasHeldMore};
 ghost use Rattle.vt_sampler.specs.Held.{WasHeld};
-ghost use Rattle.vt_sampler.specs.Samplers.{own_rows, own_count, row_in, row_length};
+ghost use Rattle.vt_sampler.specs.Samplers.{own_rows, row_in, row_length};
 
-use vt_definitions::texel_length;
+use vt_definitions::{dealt_row, own_count, texel_length};
 use vt_lookup::{Filter, Pass, Shot, Words, draw_held};
 use vt_outside::Gate;
 
@@ -43,31 +44,31 @@ pub(crate) fn draw_held_rows<P: Filter, G: Gate>(
     requires none { (p : ℕ) → p < length counts.old → slice_index counts.old p ≡ 0 }
     ensures of { IsPassOf words.now result }
     ensures holds { HasHeldMore pass.view result.view (reverse versions.new) }
-    ensures drawn { (y : ℕ) → y < shot.now.path.now.height → y % samplers ≡ sampler
+    ensures drawn { (y : ℕ) → y < shot.now.path.now.height → sampler_of y samplers ≡ sampler
         → let row = shot_row shot.now.geometry.now shot.now.path.now shot.now.picture y in
         let line = row_length shot.now.depth shot.now.path.now.width in
-        AreShown P.shown shot.now.geometry.now shot.now.depth (slice_index versions.new (y / samplers)) (IsNotedIn result.view) row
+        AreShown P.shown shot.now.geometry.now shot.now.depth (slice_index versions.new (turn_of y samplers)) (IsNotedIn result.view) row
         shot.now.path.now.width (row_in samplers line bytes.new y) }
-    ensures held { (y : ℕ) → y < shot.now.path.now.height → y % samplers ≡ sampler
-        → WasHeld pass.view result.view (slice_index versions.new (y / samplers)) }
-    ensures rising { (y z : ℕ) → z < shot.now.path.now.height → y % samplers ≡ sampler → z % samplers ≡ sampler → y ≤ z
-        → slice_index versions.new (y / samplers) ≤ slice_index versions.new (z / samplers) }
+    ensures held { (y : ℕ) → y < shot.now.path.now.height → sampler_of y samplers ≡ sampler
+        → WasHeld pass.view result.view (slice_index versions.new (turn_of y samplers)) }
+    ensures rising { (y z : ℕ) → z < shot.now.path.now.height → sampler_of y samplers ≡ sampler → sampler_of z samplers ≡ sampler → y ≤ z
+        → slice_index versions.new (turn_of y samplers) ≤ slice_index versions.new (turn_of z samplers) }
     ensures counted { (p : ℕ) → p < length counts.new
         → let rows = own_rows sampler samplers shot.now.path.now.height in
         slice_index counts.new p ≡ wants_in_rows P.wants shot.now.geometry.now shot.now.path.now shot.now.picture rows p }
 {
     let line = texel_length(shot.depth) * shot.path.width() as usize;
     let height = shot.path.height();
+    let rows = own_count(sampler, samplers, height);
     let mut pass = pass;
     let mut at = 0;
-    let mut y = sampler;
-    while y < height {
+    for turn in 0..rows {
+        let y = dealt_row(sampler, turn, samplers);
         let row = &mut bytes[at..at + line];
         let (next, version) = draw_held::<P, G>(pass, words, shot, sampler, y, gate, row, counts);
         pass = next;
-        versions[(y / samplers) as usize] = version;
+        versions[turn as usize] = version;
         at += line;
-        y += samplers;
     }
     pass
 }

@@ -1,15 +1,16 @@
 //! The rows of a sampler.
 
-ghost use Rattle.std.specs.Prelude.{◌≡◌, ℕ, ◌+◌, ◌*◌, ◌%◌, ◌<◌, ◌≤◌, ◌^◌, length, slice_index};
+ghost use Rattle.std.specs.Prelude.{◌≡◌, ℕ, ◌+◌, ◌*◌, ◌<◌, ◌≤◌, ◌^◌, length, slice_index};
 ghost use Rattle.vt_definitions.specs.Limits.{most_samplers};
+ghost use Rattle.vt_definitions.specs.Dealing.{sampler_of, own_count};
 ghost use Rattle.vt_definitions.specs.Depths.{IsDepth, texel_length};
 ghost use Rattle.vt_pages.specs.Pages.{pages_of};
 ghost use Rattle.vt_lookup.specs.Shots.{shot_row, AreDrawn, AreCounted, pixels_in_rows};
 ghost use Rattle.vt_sampler.specs.Notes.{IsTrueOf, MapsRoot};
-ghost use Rattle.vt_sampler.specs.Samplers.{own_rows, own_count, row_in, row_length};
+ghost use Rattle.vt_sampler.specs.Samplers.{own_rows, row_in, row_length};
 
 use crate::lookup::StillLookup;
-use vt_definitions::texel_length;
+use vt_definitions::{dealt_row, own_count, texel_length};
 use vt_lookup::{Shot, draw_row};
 use vt_table::StillTable;
 
@@ -66,7 +67,7 @@ pub(crate) fn draw_rows(
     requires none { (p : ℕ) → p < length counts.old → slice_index counts.old p ≡ 0 }
     requires shape { table.now.shape ≡ shot.now.geometry.now }
     requires root { MapsRoot table.now }
-    ensures drawn { (y : ℕ) → y < shot.now.path.now.height → y % samplers ≡ sampler
+    ensures drawn { (y : ℕ) → y < shot.now.path.now.height → sampler_of y samplers ≡ sampler
         → let row = shot_row shot.now.geometry.now shot.now.path.now shot.now.picture y in
         let line = row_length shot.now.depth shot.now.path.now.width in
         AreDrawn shot.now.geometry.now shot.now.depth (length table.now.changes) (IsTrueOf table.now) row
@@ -77,11 +78,11 @@ pub(crate) fn draw_rows(
 {
     let line = texel_length(shot.depth) * shot.path.width() as usize;
     let height = shot.path.height();
+    let rows = own_count(sampler, samplers, height);
     let mut at = 0;
-    let mut y = sampler;
-    while y < height {
+    for turn in 0..rows {
+        let y = dealt_row(sampler, turn, samplers);
         draw_one_row(table, shot, y, &mut bytes[at..at + line], counts);
         at += line;
-        y += samplers;
     }
 }

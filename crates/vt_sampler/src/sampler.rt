@@ -15,14 +15,13 @@ use crate::held_rows::draw_held_rows;
 use crate::rows::{clear, draw_rows, set_all};
 use std::alloc::Global;
 use std::marker::Model;
-use vt_definitions::texel_length;
+use vt_definitions::{own_count, texel_length, turn_of};
 use vt_lookup::{Filter, Nearest, Pass, Path, Shot, Words};
 use vt_outside::{Gate, NoMemory};
 use vt_pages::Geometry;
 use vt_table::StillTable;
 
-/// One of the samplers that share the rows of a picture: each draws the rows whose number leaves its own by the number of
-/// samplers. Contracts see the rows' bytes, the version at which each was drawn, and how many texels they want of each
+/// One of the samplers that share the rows of a picture: each draws the rows that it is dealt. Contracts see the rows' bytes, the version at which each was drawn, and how many texels they want of each
 /// page.
 #[derive(Drop)]
 pub struct Sampler {
@@ -84,7 +83,7 @@ impl Sampler {
         ensures for_it { IfOk result (λ v. IsFor v geometry.now path.now depth) }
     {
         let line = texel_length(depth) * path.width() as usize;
-        let rows = (path.height() + samplers - 1 - sampler) / samplers;
+        let rows = own_count(sampler, samplers, path.height());
         let versions = Vec::from_elem(alloc, 0, rows as usize)?;
         let bytes = Vec::from_elem(alloc, 0, rows as usize * line)?;
         let counts = Vec::from_elem(alloc, 0, geometry.page_count() as usize)?;
@@ -217,7 +216,7 @@ impl Sampler {
         ensures length { length result.now ≡ row_length self.now.depth self.now.width }
     {
         let line = texel_length(self.depth) * self.width as usize;
-        let at = (y / self.samplers) as usize * line;
+        let at = turn_of(y, self.samplers) as usize * line;
         &self.bytes[at..at + line]
     }
 
@@ -226,7 +225,7 @@ impl Sampler {
         requires { IsOwn self.now y }
         ensures { result ≡ version_at self.now y }
     {
-        self.versions[(y / self.samplers) as usize]
+        self.versions[turn_of(y, self.samplers) as usize]
     }
 
     /// How many texels its rows want of each page: with one texel a pixel, how many of their pixels want it.

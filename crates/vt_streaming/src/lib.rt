@@ -9,6 +9,6 @@ mod stream;
 mod waits;
 
 pub use stream::stream_batch;
-pub use vt_requests::{Counts, StreamReport, Task, sampler_of};
+pub use vt_requests::{Counts, StreamReport, Task};
 pub use vt_streamer::Streamer;
 pub use waits::take_result;

@@ -1,9 +1,10 @@
 -- What the samplers of a pass over a page cache are done with, and what holds of it.
-use Rattle.std.specs.Prelude.{◌≡◌, ℕ, ◌%◌, ◌≤◌, Option, None, Some, List, [], length, map, slice_get, slice_index, sum_by, All}
+use Rattle.std.specs.Prelude.{◌≡◌, ℕ, ◌≤◌, Option, None, Some, List, [], length, map, slice_get, slice_index, sum_by, All}
 use Rattle.std.specs.List.{range_with_len}
 use mathlib.Core.List.{IsPrefix}
 use Rattle.vt_swap.specs.Caches.{Cache}
 use Rattle.vt_tiles.specs.Depths.{IsDepth}
+use Rattle.vt_definitions.specs.Dealing.{sampler_of}
 use Rattle.vt_definitions.specs.Limits.{most_samplers}
 use Rattle.vt_tiles.specs.Shape.{Shape}
 use Rattle.vt_tiles.specs.Pages.{pages_of}
@@ -28,7 +29,7 @@ version_by (Some task) y = version_at task.sampler y
 
 -- the bytes of row y of the last picture: those of the sampler that it is dealt to
 abbrev pub drawn_row : DrawKit → ℕ → List ℕ
-drawn_row k y = row_by (slice_get k.tasks.elements (y % k.count)) y
+drawn_row k y = row_by (slice_get k.tasks.elements (sampler_of y k.count)) y
 
 -- the rows of the last picture, from the top
 abbrev pub drawn_rows : DrawKit → List (List ℕ)
@@ -36,7 +37,7 @@ drawn_rows k = map (drawn_row k) (range_with_len 0 k.height)
 
 -- the line of a row: it was drawn by the sampler that it is dealt to, at the version of that sampler's row
 abbrev pub line_of : ℕ → List SwapDrawer → ℕ → RowLine
-line_of samplers tasks y = record { row = y; sampler = y % samplers; version = version_by (slice_get tasks (y % samplers)) y }
+line_of samplers tasks y = record { row = y; sampler = sampler_of y samplers; version = version_by (slice_get tasks (sampler_of y samplers)) y }
 
 -- the lines of the rows of a picture, from the top
 abbrev pub lines_of : ℕ → List SwapDrawer → ℕ → List RowLine

@@ -1,5 +1,6 @@
 -- A pass over a page cache, by what its workers did.
-use Rattle.std.specs.Prelude.{◌≡◌, ℕ, ◌%◌, ◌<◌, false, Some, List, length, slice_get, slice_index, All, Contains, Option, None, [], slice_index_or}
+use Rattle.std.specs.Prelude.{◌≡◌, ℕ, ◌<◌, false, Some, List, length, slice_get, slice_index, All, Contains, Option, None, [], slice_index_or}
+use Rattle.vt_definitions.specs.Dealing.{sampler_of}
 use Rattle.vt_swap.specs.Caches.{Cache}
 use Rattle.vt_camera.specs.Paths.{PathView}
 use Rattle.vt_tiles.specs.Shape.{Shape}
@@ -26,7 +27,7 @@ pub record WasDrawn {P : Type 0} (filter : FilterMeanings P) (s : Shape) (d samp
     (path : PathView) (i y version : ℕ) (bytes : List ℕ) : Type 0 where
   pub drawn : AreShown filter.shown s d version (IsSaidBy v.log) (shot_row s path i y) path.width bytes
   pub by : SwapDrawer
-  pub dealt_to : slice_get tasks (y % samplers) ≡ Some by
+  pub dealt_to : slice_get tasks (sampler_of y samplers) ≡ Some by
   pub reader : ReaderView
   pub has : by.reader ≡ Some reader
   pub of : reader.cache ≡ v.cache

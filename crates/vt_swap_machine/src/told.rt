@@ -6,9 +6,9 @@ ghost use Rattle.vt_swap_workers.specs.declared.workers.SwapDrawer.{SwapDrawer a
 ghost use Rattle.vt_swap_machine.specs.DrawKits.{AreDrawers, HasReader, IsToldBy, lines_of, counted_together};
 ghost use Rattle.vt_swap_machine.specs.SwapPasses.{IsIntact};
 
+use vt_definitions::sampler_of;
 use vt_feedback::Counts;
 use vt_journal::{RowLine, RowLines};
-use vt_loading::sampler_of;
 use vt_swap::SwapStreamer;
 use vt_swap_workers::{SwapDrawer, SwapFeeder};
 

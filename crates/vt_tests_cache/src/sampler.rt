@@ -13,7 +13,7 @@ use std::alloc::Global;
 use vt_camera::parse_path;
 use vt_draw::Shot;
 use vt_pages::Geometry;
-use vt_sampler::Sampler;
+use vt_sampler::{Sampler, sampler_of};
 use vt_table::StillTable;
 
 // Adds counts of five pages, and answers whether they are so many.
@@ -58,7 +58,7 @@ fn draw_share(
     own.draw_still(shot, table);
     let newest = table.journal().version();
     for y in 0..shot.path.height() {
-        if y % samplers == sampler {
+        if sampler_of(y, samplers) == sampler {
             let row = own.row(y);
             let at = y as usize * row.len();
             if own.version(y) != newest || at + row.len() > picture.len() {

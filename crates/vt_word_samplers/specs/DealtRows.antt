@@ -1,9 +1,10 @@
 -- The samplers to which the rows of a picture are dealt, the lines of these rows, and what they count.
-use Rattle.std.specs.Prelude.{◌≡◌, ℕ, ◌%◌, Option, None, Some, List, [], length, map, slice_get, slice_index, sum_by}
+use Rattle.std.specs.Prelude.{◌≡◌, ℕ, Option, None, Some, List, [], length, map, slice_get, slice_index, sum_by}
 use Rattle.std.specs.List.{range_with_len}
 use Rattle.vt_tiles.specs.Shape.{Shape}
 use Rattle.vt_tiles.specs.Pages.{pages_of}
 use Rattle.vt_journal.specs.declared.changes.RowLine.{RowLine}
+use Rattle.vt_sampler.specs.Dealing.{sampler_of}
 use Rattle.vt_sampler.specs.Samplers.{SamplerView, row_at, version_at}
 use Rattle.vt_word_samplers.specs.WordSamplers.{WordSampler}
 
@@ -33,7 +34,7 @@ version_by (Some task) y = version_at task.sampler y
 
 -- the line of a row: it was drawn by the sampler that it is dealt to, at the version of that sampler's row
 abbrev pub line_of : ℕ → List WordSampler → ℕ → RowLine
-line_of samplers tasks y = record { row = y; sampler = y % samplers; version = version_by (slice_get tasks (y % samplers)) y }
+line_of samplers tasks y = record { row = y; sampler = sampler_of y samplers; version = version_by (slice_get tasks (sampler_of y samplers)) y }
 
 -- the lines of the rows of a picture, from the top
 abbrev pub lines_of : ℕ → List WordSampler → ℕ → List RowLine

@@ -7,7 +7,8 @@ ghost use Rattle.vt_word_samplers.specs.DealtRows.{AreSamplersOf, lines_of, coun
 
 use crate::samplers::WordSampler;
 use vt_journal::{RowLine, RowLines};
-use vt_streaming::{Counts, sampler_of};
+use vt_sampler::sampler_of;
+use vt_streaming::Counts;
 
 /// Notes the lines of a picture's rows, each drawn by the sampler that it is dealt to, at the version of that sampler's row.
 pub fn note_lines(rows: &mut RowLines, samplers: &[WordSampler], count: u32, height: u32)

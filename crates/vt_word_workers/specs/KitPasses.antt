@@ -1,5 +1,6 @@
 -- A pass over shared words, by what its workers did.
-use Rattle.std.specs.Prelude.{◌≡◌, ℕ, ◌%◌, ◌≤◌, List, [], length, reverse, All, Contains}
+use Rattle.std.specs.Prelude.{◌≡◌, ℕ, ◌≤◌, List, [], length, reverse, All, Contains}
+use Rattle.vt_definitions.specs.Dealing.{sampler_of}
 use Rattle.vt_outside.specs.declared.outside.File.{Ghosts as FileMeanings}
 use Rattle.vt_pages.specs.Shape.{Shape}
 use Rattle.vt_camera.specs.Paths.{PathView}
@@ -39,7 +40,7 @@ pub record WasDrawn {P : Type 0} (filter : FilterMeanings P) (s : Shape) (d samp
   pub drawn : AreShown filter.shown s d version (IsNotedBy w) (shot_row s path i y) path.width bytes
   pub by : Returned
   pub returned : Contains w.returned by
-  pub dealt_to : by.sampler ≡ y % samplers
+  pub dealt_to : by.sampler ≡ sampler_of y samplers
   pub held : Contains by.held version
 
 -- what the samplers of a kit have drawn up to now over the words of a streamer

@@ -1,6 +1,7 @@
 -- What a pass over shared words uses, and what holds of it.
-use Rattle.std.specs.Prelude.{◌≡◌, ℕ, ◌*◌, ◌%◌, ◌≤◌, false, List, [], length, map, slice_get, All}
+use Rattle.std.specs.Prelude.{◌≡◌, ℕ, ◌*◌, ◌≤◌, false, List, [], length, map, slice_get, All}
 use Rattle.std.specs.List.{range_with_len}
+use Rattle.vt_definitions.specs.Dealing.{sampler_of}
 use Rattle.vt_definitions.specs.Depths.{IsDepth}
 use Rattle.vt_outside.specs.Lists.{ListView}
 use Rattle.vt_outside.specs.declared.outside.File.{Ghosts as FileMeanings}
@@ -47,7 +48,7 @@ pub record KitView (F : Type 0) : Type 0 where
 
 -- the bytes of row y of the last picture: those of the sampler that it is dealt to
 abbrev pub kit_row : {F : Type 0} → KitView F → ℕ → List ℕ
-kit_row k y = row_by (slice_get k.samplers (y % k.crew.samplers)) y
+kit_row k y = row_by (slice_get k.samplers (sampler_of y k.crew.samplers)) y
 
 -- the rows of the last picture, from the top
 abbrev pub kit_rows : {F : Type 0} → KitView F → List (List ℕ)

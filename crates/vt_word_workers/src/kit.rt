@@ -32,11 +32,9 @@ use std::mem;
 use std::sync::Wait;
 use std::thread::Threads;
 use vt_camera::Path;
-use vt_definitions::texel_length;
+use vt_definitions::{sampler_of, texel_length};
 use vt_load::{QueuedLoader, Queues, Stores, tile_length};
-use vt_loading::{
-    Batch, Crew, PassReport, RoundKit, blank_report, reserve_reads, sampler_of, with_room,
-};
+use vt_loading::{Batch, Crew, PassReport, RoundKit, blank_report, reserve_reads, with_room};
 use vt_outside::{File, Items, NoMemory};
 use vt_pages::Geometry;
 use vt_queue::{Loaded, QueuePass, Request};

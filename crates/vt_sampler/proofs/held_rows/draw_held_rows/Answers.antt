@@ -1,8 +1,7 @@
-use Rattle.std.proofs.Common.{◌≡◌, ℕ, ◌+◌, ◌*◌, ◌/◌, ◌%◌, ◌≤◌, ◌<◌, inl, inr, List, [], ◌∷◌, ◌∙◌, ap, sym, subst, length, take, reverse, arith}
+use Rattle.std.proofs.Common.{◌≡◌, ℕ, ◌+◌, ◌*◌, ◌/◌, ◌%◌, ◌≤◌, ◌<◌, List, [], ◌∷◌, ◌++◌, ◌∙◌, ap, sym, subst, refl, length, take, reverse, arith}
 use Rattle.std.specs.Prelude.{slice_index, slice_set}
 use Rattle.std.proofs.lemmas.Nat.{mul-le}
-use Rattle.std.proofs.lemmas.Bool.{cases_lt}
-use Rattle.std.proofs.lemmas.List.{get_or-set_same, take_more_set, take_all, reverse-append}
+use Rattle.std.proofs.lemmas.List.{take_more_set, take_all, reverse-append}
 use Rattle.vt_lookup.specs.Lookups.{Note}
 use Rattle.vt_lookup.specs.Evidence.{AreShown}
 use Rattle.vt_lookup.proofs.Handed.{shown_by_more}
@@ -10,73 +9,97 @@ use Rattle.vt_lookup.specs.Shots.{shot_row, wants_in_rows}
 use Rattle.vt_lookup.specs.GraceTypes.views.PassView.{PassView}
 use Rattle.vt_lookup.specs.Notes.{IsNotedIn, HasHeldMore}
 use Rattle.vt_sampler.specs.Held.{WasHeld}
-use Rattle.vt_sampler.specs.Samplers.{own_rows, own_count, row_in, row_length}
-use Rattle.vt_sampler.proofs.Quotients.{apart, quotient_after, rest_after, rest_small, quotient_small, own_done}
-use Rattle.vt_sampler.proofs.Sharing.{own_fits, own_room, own_rows-first, own_rows-next, own_rows-same, own_most, wants-none, wants-push}
+use Rattle.vt_definitions.specs.Dealing.{own_count}
+use Rattle.vt_sampler.specs.Samplers.{own_rows, row_in, row_length}
+use Rattle.vt_definitions.proofs.Quotients.{rest_small}
+use Rattle.vt_definitions.proofs.Dealt.{sampler_is, turn_is, dealt_inside, dealt_within, all_dealt}
+use Rattle.vt_sampler.proofs.Sharing.{own_room, own_rows-first, own_rows-next, own_rows-same, own_most, wants-none, wants-push}
 use Rattle.vt_sampler.proofs.Drawing.{rows_after}
-use Rattle.vt_sampler.proofs.Holding.{none_held, held_then, was_held_then, was_held_now, not_above, version_before, versions_after, rising_after}
+use Rattle.vt_sampler.proofs.Holding.{version_here, none_held, held_then, was_held_then, was_held_now, not_above, version_before, versions_after, rising_after}
 use Rattle.vt_sampler.proofs.held_rows.draw_held_rows.Goals as goal
 
-pub loop-y-init : goal.loop-y-init
-loop-y-init g c =
-    let none : (z : ℕ) → z < c.args.sampler → z % c.args.samplers ≡ c.args.sampler → ⊥ = λ z below own.
+zero_turn : (n k : ℕ) → 0 * n + k ≡ k
+zero_turn n k = omega arith
+
+pub loop-turn-init : goal.loop-turn-init
+loop-turn-init g c =
+    let none : (z : ℕ) → z < 0 * c.args.samplers + c.args.sampler → z % c.args.samplers ≡ c.args.sampler → ⊥ = λ z below own.
     omega (arith, rest_small c.args.samplers z (omega (arith, below, c.requires.one_of)), own) in
     record {
       of = c.requires.of;
-      holds =
-          subst (λ (k : ℕ). HasHeldMore c.args.pass.view c.args.pass.view (reverse (take k c.args.versions.now)))
-          (sym (quotient_small c.args.samplers c.args.sampler c.requires.one_of)) (none_held c.args.pass.view);
-      place = sym (ap (λ n. n * (c.texel_length.result * c.width.result)) (quotient_small c.args.samplers c.args.sampler c.requires.one_of) ∙ omega arith);
-      own = rest_small c.args.samplers c.args.sampler c.requires.one_of;
-      last = λ z below own. absurd (none z below own);
+      holds = none_held c.args.pass.view;
+      few = omega arith;
+      place = omega arith;
       drawn = λ z below own. absurd (none z below own);
       held = λ z below own. absurd (none z below own);
       rising = λ x z below own_x own_z low. absurd (none z below own_z);
       counted = λ p inside.
           c.requires.none p inside
           ∙ sym (ap (λ (rows : List ℕ). wants_in_rows g.P.Filter.wants c.args.shot.now.geometry.now c.args.shot.now.path.now c.args.shot.now.picture rows p)
-          (own_rows-first c.args.sampler c.args.samplers c.requires.one_of)
+          (ap (own_rows c.args.sampler c.args.samplers) (zero_turn c.args.samplers c.args.sampler) ∙ own_rows-first c.args.sampler c.args.samplers c.requires.one_of)
           ∙ wants-none g.P.Filter.wants c.args.shot.now.geometry.now c.args.shot.now.path.now c.args.shot.now.picture p);
     }
 
 pub slice_bounds-row-end : goal.slice_bounds-row-end
 slice_bounds-row-end g c =
-    let all : length c.args.bytes.now ≡ own_count c.args.sampler c.args.samplers c.args.shot.now.path.now.height * (c.texel_length.result * c.width.result) =
+    let n : ℕ = c.args.samplers in
+    let k : ℕ = c.args.sampler in
+    let turn : ℕ = c.loop-turn.turn in
+    let y : ℕ = c.dealt_row-y.result in
+    let y_is : y ≡ turn * n + k = c.dealt_row-y.ensures in
+    let own_y : y % n ≡ k = ap (λ m. m % n) y_is ∙ sampler_is k turn n c.requires.one_of in
+    let turn_y : y / n ≡ turn = ap (λ m. m / n) y_is ∙ turn_is k turn n c.requires.one_of in
+    let inside = dealt_inside k turn n _ _ _ y c.requires.one_of c.height-height.ensures.value c.own_count-rows.ensures.value c.loop-turn-test.true y_is in
+    let place : c.loop-turn.at ≡ y / n * (c.texel_length.result * c.width.result) =
+    c.loop-turn.invariant.place ∙ ap (λ m. m * (c.texel_length.result * c.width.result)) (sym turn_y) in
+    let all : length c.args.bytes.now ≡ own_count k n c.args.shot.now.path.now.height * (c.texel_length.result * c.width.result) =
     rw (c.texel_length.ensures.value, c.width.ensures.value) c.requires.bytes in
-    own_room c.args.sampler c.args.samplers c.args.shot.now.path.now.height (c.texel_length.result * c.width.result) c.loop-y.y c.loop-y.at
-    (length c.loop-y.bytes) c.requires.one_of (omega (arith, c.height-height.ensures.value)) c.loop-y.invariant.own c.loop-y.invariant.place
-    (c.loop-y.auto.bytes ∙ all)
+    own_room k n c.args.shot.now.path.now.height (c.texel_length.result * c.width.result) y c.loop-turn.at
+    (length c.loop-turn.bytes) c.requires.one_of inside own_y place (c.loop-turn.auto.bytes ∙ all)
+
+pub draw_held-next-requires-clause-within : goal.draw_held-next-requires-clause-within
+draw_held-next-requires-clause-within g c =
+    dealt_inside c.args.sampler c.loop-turn.turn c.args.samplers _ _ _ _ c.requires.one_of c.height-height.ensures.value c.own_count-rows.ensures.value
+    c.loop-turn-test.true c.dealt_row-y.ensures
 
 pub draw_held-next-requires-clause-room : goal.draw_held-next-requires-clause-room
-draw_held-next-requires-clause-room g c p inside =
+draw_held-next-requires-clause-room g c p small =
     let s = c.args.shot.now.geometry.now in
     let path = c.args.shot.now.path.now in
     let picture = c.args.shot.now.picture in
     let wants = g.P.Filter.wants in
     let few : (z : ℕ) → wants s (shot_row s path picture z) path.width p ≤ 4 * path.width = λ z.
     g.met.P.Filter.wants_few s (shot_row s path picture z) path.width p in
-    let most = own_most wants s path picture p (4 * path.width) few c.args.sampler c.args.samplers c.loop-y.y in
-    let low : c.loop-y.y ≤ 2048 = omega (arith, c.height-height.ensures.high) in
+    let most = own_most wants s path picture p (4 * path.width) few c.args.sampler c.args.samplers (c.loop-turn.turn * c.args.samplers + c.args.sampler) in
+    let y : ℕ = c.loop-turn.turn * c.args.samplers + c.args.sampler in
+    let inside = dealt_inside c.args.sampler c.loop-turn.turn c.args.samplers _ _ _ y c.requires.one_of c.height-height.ensures.value
+    c.own_count-rows.ensures.value c.loop-turn-test.true refl in
+    let low : y ≤ 2048 = omega (arith, inside, c.height-height.ensures.value, c.height-height.ensures.high) in
     let wide : path.width ≤ 2048 = omega (arith, c.width.ensures.value, c.width.ensures.high) in
-    omega (arith, most, wide, c.loop-y.invariant.counted p inside, mul-le c.loop-y.y (4 * path.width) 2048 8192 low (omega (arith, wide)))
+    omega (arith, most, wide, c.loop-turn.invariant.counted p small, mul-le y (4 * path.width) 2048 8192 low (omega (arith, wide)))
 
-pub loop-y-preserved : goal.loop-y-preserved
-loop-y-preserved g c =
+pub loop-turn-preserved : goal.loop-turn-preserved
+loop-turn-preserved g c =
     let n : ℕ = c.args.samplers in
+    let k : ℕ = c.args.sampler in
+    let turn : ℕ = c.loop-turn.turn in
+    let y : ℕ = c.dealt_row-y.result in
     let some : 1 ≤ n = omega (arith, c.requires.one_of) in
+    let y_is : y ≡ turn * n + k = c.dealt_row-y.ensures in
+    let own_y : y % n ≡ k = ap (λ m. m % n) y_is ∙ sampler_is k turn n c.requires.one_of in
+    let turn_y : y / n ≡ turn = ap (λ m. m / n) y_is ∙ turn_is k turn n c.requires.one_of in
+    let inside = dealt_inside k turn n _ _ _ y c.requires.one_of c.height-height.ensures.value c.own_count-rows.ensures.value c.loop-turn-test.true y_is in
+    let place : c.loop-turn.at ≡ y / n * (c.texel_length.result * c.width.result) =
+    c.loop-turn.invariant.place ∙ ap (λ m. m * (c.texel_length.result * c.width.result)) (sym turn_y) in
+    let count : c.own_count-rows.result ≡ own_count c.args.sampler c.args.samplers c.args.shot.now.path.now.height =
+    c.own_count-rows.ensures.value ∙ ap (λ h. own_count c.args.sampler c.args.samplers h) c.height-height.ensures.value in
     let first : PassView = c.args.pass.view in
-    let old : PassView = c.loop-y.pass.view in
+    let old : PassView = c.loop-turn.pass.view in
     let new : PassView = c.draw_held-next.result.0.view in
     let v : ℕ = c.draw_held-next.result.1 in
-    let inside : c.loop-y.y < c.args.shot.now.path.now.height = omega (arith, c.loop-y-test.true, c.height-height.ensures.value) in
-    let fits : c.loop-y.y / n < length c.loop-y.versions =
-    omega (
-      arith,
-      own_fits c.args.sampler n c.args.shot.now.path.now.height c.loop-y.y c.requires.one_of inside c.loop-y.invariant.own,
-      c.loop-y.auto.versions,
-      c.requires.rows,
-    ) in
-    let versions : List ℕ = slice_set c.loop-y.versions (c.loop-y.y / n) v in
+    let fits : turn < length c.loop-turn.versions =
+    omega (arith, c.loop-turn-test.true, count, c.loop-turn.auto.versions, c.requires.rows) in
+    let versions : List ℕ = slice_set c.loop-turn.versions turn v in
     let D : ℕ → (Note → Type 0) → ℕ → List ℕ → Type 0 = λ u says z row.
     AreShown g.P.Filter.shown c.args.shot.now.geometry.now c.args.shot.now.depth u says
     (shot_row c.args.shot.now.geometry.now c.args.shot.now.path.now c.args.shot.now.picture z) c.args.shot.now.path.now.width row in
@@ -84,90 +107,93 @@ loop-y-preserved g c =
     let full : length c.draw_held-next.new.out ≡ c.texel_length.result * c.width.result = omega arith in
     let all : length c.args.bytes.now ≡ own_count c.args.sampler n c.args.shot.now.path.now.height * (c.texel_length.result * c.width.result) =
     rw (c.texel_length.ensures.value, c.width.ensures.value) c.requires.bytes in
-    let room = own_room c.args.sampler n c.args.shot.now.path.now.height (c.texel_length.result * c.width.result) c.loop-y.y c.loop-y.at
-    (length c.loop-y.bytes) c.requires.one_of inside c.loop-y.invariant.own c.loop-y.invariant.place (c.loop-y.auto.bytes ∙ all) in
-    let here : P c.loop-y.y c.draw_held-next.new.out =
-    subst (λ (u : ℕ). D u (IsNotedIn new) c.loop-y.y c.draw_held-next.new.out)
-    (sym (get_or-set_same c.loop-y.versions (c.loop-y.y / n) v 0 fits)) c.draw_held-next.ensures.drawn in
-    let before : (z : ℕ) → z < c.loop-y.y → z % n ≡ c.loop-y.y % n → P z (row_in n (c.texel_length.result * c.width.result) c.loop-y.bytes z) =
+    let room = own_room c.args.sampler n c.args.shot.now.path.now.height (c.texel_length.result * c.width.result) y c.loop-turn.at
+    (length c.loop-turn.bytes) c.requires.one_of inside own_y place (c.loop-turn.auto.bytes ∙ all) in
+    let here : P y c.draw_held-next.new.out =
+    subst (λ (u : ℕ). D u (IsNotedIn new) y c.draw_held-next.new.out)
+    (sym (version_here n y turn y v c.loop-turn.versions turn_y fits refl)) c.draw_held-next.ensures.drawn in
+    let before : (z : ℕ) → z < y → z % n ≡ y % n → P z (row_in n (c.texel_length.result * c.width.result) c.loop-turn.bytes z) =
     λ z less same.
     shown_by_more g.P.Filter.shown c.args.shot.now.geometry.now c.args.shot.now.depth (slice_index versions (z / n)) c.args.shot.now.path.now.width
     (IsNotedIn old) (IsNotedIn new) (shot_row c.args.shot.now.geometry.now c.args.shot.now.path.now c.args.shot.now.picture z)
-    (row_in n (c.texel_length.result * c.width.result) c.loop-y.bytes z) c.draw_held-next.ensures.more.notes
-    (subst (λ (u : ℕ). D u (IsNotedIn old) z (row_in n (c.texel_length.result * c.width.result) c.loop-y.bytes z))
-    (sym (version_before n c.loop-y.y z v c.loop-y.versions same less)) (c.loop-y.invariant.drawn z less (same ∙ c.loop-y.invariant.own))) in
-    let so_far : List ℕ = reverse (take (c.loop-y.y / n) c.loop-y.versions) in
-    let one_more : reverse (take ((c.loop-y.y + n) / n) versions) ≡ v ∷ so_far =
-    ap (λ (k : ℕ). reverse (take k versions)) (quotient_after n c.loop-y.y some)
-    ∙ ap reverse (take_more_set c.loop-y.versions (c.loop-y.y / n) v fits)
-    ∙ reverse-append (take (c.loop-y.y / n) c.loop-y.versions) (v ∷ []) in
+    (row_in n (c.texel_length.result * c.width.result) c.loop-turn.bytes z) c.draw_held-next.ensures.more.notes
+    (subst (λ (u : ℕ). D u (IsNotedIn old) z (row_in n (c.texel_length.result * c.width.result) c.loop-turn.bytes z))
+    (sym (version_before n y turn z v c.loop-turn.versions turn_y same less)) (c.loop-turn.invariant.drawn z (omega (arith, less, y_is)) (same ∙ own_y))) in
+    let so_far : List ℕ = reverse (take turn c.loop-turn.versions) in
+    let one_more : reverse (take (turn + 1) versions) ≡ v ∷ so_far =
+    ap reverse (take_more_set c.loop-turn.versions turn v fits) ∙ reverse-append (take turn c.loop-turn.versions) (v ∷ []) in
+    let on : (turn + 1) * n + k ≡ y + n = omega (arith, y_is) in
+    let next : own_rows k n ((turn + 1) * n + k) ≡ own_rows k n (turn * n + k) ++ y ∷ [] =
+    ap (own_rows k n) on ∙ own_rows-next k n y some own_y ∙ ap (λ m. own_rows k n m ++ y ∷ []) y_is in
     record {
       of = c.draw_held-next.ensures.of;
       holds =
           subst (λ (us : List ℕ). HasHeldMore first new us) (sym one_more)
-          (held_then first old new so_far v c.loop-y.invariant.holds c.draw_held-next.ensures.more);
-      place = omega (arith, c.loop-y.invariant.place, ap (λ m. m * (c.texel_length.result * c.width.result)) (quotient_after n c.loop-y.y some));
-      own = rest_after n c.loop-y.y some ∙ c.loop-y.invariant.own;
-      last = λ z below own.
-          elim (cases_lt z c.loop-y.y) [
-            | inl less ↦ c.loop-y.invariant.last z less own
-            | inr past ↦
-                elim (cases_lt c.loop-y.y z) [
-                  | inl more ↦ absurd (omega (arith, apart n z c.loop-y.y (c.loop-y.invariant.own ∙ sym own) more))
-                  | inr same ↦ omega (arith, c.loop-y-test.true)
-                ]
-          ];
+          (held_then first old new so_far v c.loop-turn.invariant.holds c.draw_held-next.ensures.more);
+      few = omega (arith, c.loop-turn-test.true);
+      place = omega (arith, c.loop-turn.invariant.place);
       drawn = λ z below own.
-          rows_after P n (c.texel_length.result * c.width.result) c.loop-y.at _ c.loop-y.y c.loop-y.bytes c.draw_held-next.new.out
-          c.loop-y.invariant.place room full here before z below (own ∙ sym c.loop-y.invariant.own);
+          rows_after P n (c.texel_length.result * c.width.result) c.loop-turn.at _ y c.loop-turn.bytes c.draw_held-next.new.out
+          place room full here before z (omega (arith, below, on)) (own ∙ sym own_y);
       held = λ z below own.
-          versions_after (λ (i : ℕ) (u : ℕ). WasHeld first new u) n c.loop-y.y v c.loop-y.versions fits
-          (was_held_now first old new so_far v c.loop-y.invariant.holds c.draw_held-next.ensures.more c.draw_held-next.ensures.given
+          versions_after (λ (i : ℕ) (u : ℕ). WasHeld first new u) n y turn v c.loop-turn.versions turn_y fits
+          (was_held_now first old new so_far v c.loop-turn.invariant.holds c.draw_held-next.ensures.more c.draw_held-next.ensures.given
           c.draw_held-next.ensures.later)
-          (λ i less same. was_held_then first old new _ v c.draw_held-next.ensures.more (c.loop-y.invariant.held i less (same ∙ c.loop-y.invariant.own)))
-          z below (own ∙ sym c.loop-y.invariant.own);
+          (λ i less same. was_held_then first old new _ v c.draw_held-next.ensures.more (c.loop-turn.invariant.held i (omega (arith, less, y_is)) (same ∙ own_y)))
+          z (omega (arith, below, on)) (own ∙ sym own_y);
       rising = λ x z below own_x own_z low.
-          rising_after n c.loop-y.y v c.loop-y.versions fits
-          (λ i less same. not_above first old _ v c.draw_held-next.ensures.later (c.loop-y.invariant.held i less (same ∙ c.loop-y.invariant.own)))
-          (λ i j less own_i own_j. c.loop-y.invariant.rising i j less (own_i ∙ c.loop-y.invariant.own) (own_j ∙ c.loop-y.invariant.own))
-          x z below (own_x ∙ sym c.loop-y.invariant.own) (own_z ∙ sym c.loop-y.invariant.own) low;
-      counted = λ p inside.
-          c.draw_held-next.ensures.counted p inside
+          rising_after n y turn v c.loop-turn.versions turn_y fits
+          (λ i less same. not_above first old _ v c.draw_held-next.ensures.later (c.loop-turn.invariant.held i (omega (arith, less, y_is)) (same ∙ own_y)))
+          (λ i j less own_i own_j. c.loop-turn.invariant.rising i j (omega (arith, less, y_is)) (own_i ∙ own_y) (own_j ∙ own_y))
+          x z (omega (arith, below, on)) (own_x ∙ sym own_y) (own_z ∙ sym own_y) low;
+      counted = λ p small.
+          c.draw_held-next.ensures.counted p small
           ∙ ap (λ m. m + g.P.Filter.wants c.args.shot.now.geometry.now
-          (shot_row c.args.shot.now.geometry.now c.args.shot.now.path.now c.args.shot.now.picture c.loop-y.y) c.args.shot.now.path.now.width p)
-          (c.loop-y.invariant.counted p (omega arith))
+          (shot_row c.args.shot.now.geometry.now c.args.shot.now.path.now c.args.shot.now.picture y) c.args.shot.now.path.now.width p)
+          (c.loop-turn.invariant.counted p (omega arith))
           ∙ sym (ap (λ (rows : List ℕ). wants_in_rows g.P.Filter.wants c.args.shot.now.geometry.now c.args.shot.now.path.now c.args.shot.now.picture rows p)
-          (own_rows-next c.args.sampler n c.loop-y.y some c.loop-y.invariant.own)
-          ∙ wants-push g.P.Filter.wants c.args.shot.now.geometry.now c.args.shot.now.path.now c.args.shot.now.picture p c.loop-y.y
-          (own_rows c.args.sampler n c.loop-y.y));
+          next
+          ∙ wants-push g.P.Filter.wants c.args.shot.now.geometry.now c.args.shot.now.path.now c.args.shot.now.picture p y
+          (own_rows k n (turn * n + k)));
     }
 
 pub returns-clause-counted : goal.returns-clause-counted
 returns-clause-counted g c p inside =
-    c.loop-y.invariant.counted p inside
+    let over = all_dealt c.args.sampler c.loop-turn.turn c.args.samplers _ _ _ c.requires.one_of c.height-height.ensures.value c.own_count-rows.ensures.value
+    c.loop-turn-test.false in
+    c.loop-turn.invariant.counted p inside
     ∙ ap (λ (rows : List ℕ). wants_in_rows g.P.Filter.wants c.args.shot.now.geometry.now c.args.shot.now.path.now c.args.shot.now.picture rows p)
-    (own_rows-same c.args.sampler c.args.samplers c.args.shot.now.path.now.height c.loop-y.y (omega (arith, c.height-height.ensures.value))
-    (λ z below own. omega (arith, c.loop-y.invariant.last z below own, c.height-height.ensures.value)))
+    (own_rows-same c.args.sampler c.args.samplers _ _ over (λ z below own. dealt_within c.args.sampler c.loop-turn.turn c.args.samplers _ _ _ z c.requires.one_of
+    c.height-height.ensures.value c.own_count-rows.ensures.value c.loop-turn.invariant.few below own))
 
 pub returns-clause-drawn : goal.returns-clause-drawn
 returns-clause-drawn g c y inside own =
+    let over = all_dealt c.args.sampler c.loop-turn.turn c.args.samplers _ _ _ c.requires.one_of c.height-height.ensures.value c.own_count-rows.ensures.value
+    c.loop-turn-test.false in
     let s = c.args.shot.now.geometry.now in
     let path = c.args.shot.now.path.now in
     let depth = c.args.shot.now.depth in
     let line : c.texel_length.result * c.width.result ≡ row_length depth path.width = λ i. c.texel_length.ensures.value i * c.width.ensures.value i in
-    let low : y < c.loop-y.y = omega (arith, inside, c.loop-y-test.false, c.height-height.ensures.value) in
-    subst (λ (n : ℕ). AreShown g.P.Filter.shown s depth (slice_index c.loop-y.versions (y / c.args.samplers)) (IsNotedIn c.loop-y.pass.view)
-    (shot_row s path c.args.shot.now.picture y) path.width (row_in c.args.samplers n c.loop-y.bytes y)) line (c.loop-y.invariant.drawn y low own)
+    subst (λ (m : ℕ). AreShown g.P.Filter.shown s depth (slice_index c.loop-turn.versions (y / c.args.samplers)) (IsNotedIn c.loop-turn.pass.view)
+    (shot_row s path c.args.shot.now.picture y) path.width (row_in c.args.samplers m c.loop-turn.bytes y)) line (c.loop-turn.invariant.drawn y (omega (arith, inside, over)) own)
 
 pub returns-clause-holds : goal.returns-clause-holds
 returns-clause-holds g c =
-    let all : length c.loop-y.versions ≤ c.loop-y.y / c.args.samplers =
-    omega (
-      arith,
-      own_done c.args.sampler c.args.samplers c.args.shot.now.path.now.height c.loop-y.y c.requires.one_of
-          (omega (arith, c.loop-y-test.false, c.height-height.ensures.value)) c.loop-y.invariant.own,
-      c.loop-y.auto.versions,
-      c.requires.rows,
-    ) in
-    subst (λ (us : List ℕ). HasHeldMore c.args.pass.view c.loop-y.pass.view (reverse us))
-    (take_all (c.loop-y.y / c.args.samplers) c.loop-y.versions all) c.loop-y.invariant.holds
+    let count : c.own_count-rows.result ≡ own_count c.args.sampler c.args.samplers c.args.shot.now.path.now.height =
+    c.own_count-rows.ensures.value ∙ ap (λ h. own_count c.args.sampler c.args.samplers h) c.height-height.ensures.value in
+    let all : length c.loop-turn.versions ≤ c.loop-turn.turn =
+    omega (arith, c.loop-turn-test.false, count, c.loop-turn.auto.versions, c.requires.rows) in
+    subst (λ (us : List ℕ). HasHeldMore c.args.pass.view c.loop-turn.pass.view (reverse us))
+    (take_all c.loop-turn.turn c.loop-turn.versions all) c.loop-turn.invariant.holds
+
+pub returns-clause-held : goal.returns-clause-held
+returns-clause-held g c z inside own =
+    let over = all_dealt c.args.sampler c.loop-turn.turn c.args.samplers _ _ _ c.requires.one_of c.height-height.ensures.value c.own_count-rows.ensures.value
+    c.loop-turn-test.false in
+    c.loop-turn.invariant.held z (omega (arith, inside, over)) own
+
+pub returns-clause-rising : goal.returns-clause-rising
+returns-clause-rising g c x z inside own_x own_z low =
+    let over = all_dealt c.args.sampler c.loop-turn.turn c.args.samplers _ _ _ c.requires.one_of c.height-height.ensures.value c.own_count-rows.ensures.value
+    c.loop-turn-test.false in
+    c.loop-turn.invariant.rising x z (omega (arith, inside, over)) own_x own_z low

@@ -1,4 +1,4 @@
-use Rattle.std.proofs.Common.{◌≡◌, ℕ, ◌-◌, ◌*◌, ◌/◌, ◌%◌, ◌<◌, ◌≤◌, length, take, reverse}
+use Rattle.std.proofs.Common.{◌≡◌, ℕ, ◌+◌, ◌*◌, ◌/◌, ◌%◌, ◌<◌, ◌≤◌, length, take, reverse}
 use Rattle.std.specs.Prelude.{slice_index}
 use Rattle.vt_lookup.specs.Shots.{shot_row, wants_in_rows}
 use Rattle.vt_lookup.specs.Evidence.{AreShown}
@@ -9,22 +9,18 @@ use Rattle.vt_sampler.specs.Samplers.{own_rows, row_in}
 use Rattle.vt_sampler.proofs.held_rows.draw_held_rows.Given as goal
 
 -- the sampler's rows so far are drawn and counted, each at a version that the pass held, which never fell
-abbrev pub invariant-loop-y : goal.invariant-loop-y
-invariant-loop-y g l = record {
+abbrev pub invariant-loop-turn : goal.invariant-loop-turn
+invariant-loop-turn g l = record {
   of : IsPassOf l.words l.pass;
-  holds : HasHeldMore l.fn.pass.view l.pass.view (reverse (take (l.y / l.samplers) l.versions));
-  place : l.at ≡ l.y / l.samplers * l.line;
-  own : l.y % l.samplers ≡ l.sampler;
-  last : (z : ℕ) → z < l.y → z % l.samplers ≡ l.sampler → z < l.height;
-  drawn : (z : ℕ) → z < l.y → z % l.samplers ≡ l.sampler
+  holds : HasHeldMore l.fn.pass.view l.pass.view (reverse (take l.turn l.versions));
+  few : l.turn ≤ l.rows;
+  place : l.at ≡ l.turn * l.line;
+  drawn : (z : ℕ) → z < l.turn * l.samplers + l.sampler → z % l.samplers ≡ l.sampler
       → AreShown g.P.Filter.shown l.shot.geometry.now l.shot.depth (slice_index l.versions (z / l.samplers)) (IsNotedIn l.pass.view)
       (shot_row l.shot.geometry.now l.shot.path.now l.shot.picture z) l.shot.path.now.width (row_in l.samplers l.line l.bytes z);
-  held : (z : ℕ) → z < l.y → z % l.samplers ≡ l.sampler → WasHeld l.fn.pass.view l.pass.view (slice_index l.versions (z / l.samplers));
-  rising : (x z : ℕ) → z < l.y → x % l.samplers ≡ l.sampler → z % l.samplers ≡ l.sampler → x ≤ z
+  held : (z : ℕ) → z < l.turn * l.samplers + l.sampler → z % l.samplers ≡ l.sampler → WasHeld l.fn.pass.view l.pass.view (slice_index l.versions (z / l.samplers));
+  rising : (x z : ℕ) → z < l.turn * l.samplers + l.sampler → x % l.samplers ≡ l.sampler → z % l.samplers ≡ l.sampler → x ≤ z
       → slice_index l.versions (x / l.samplers) ≤ slice_index l.versions (z / l.samplers);
   counted : (p : ℕ) → p < length l.counts
-      → slice_index l.counts p ≡ wants_in_rows g.P.Filter.wants l.shot.geometry.now l.shot.path.now l.shot.picture (own_rows l.sampler l.samplers l.y) p;
+      → slice_index l.counts p ≡ wants_in_rows g.P.Filter.wants l.shot.geometry.now l.shot.path.now l.shot.picture (own_rows l.sampler l.samplers (l.turn * l.samplers + l.sampler)) p;
 }
-
-abbrev pub decreases-loop-y : goal.decreases-loop-y
-decreases-loop-y g l = l.height - l.y

@@ -4,7 +4,8 @@ use Rattle.std.specs.Vec.{with_items}
 use Rattle.std.proofs.lemmas.List.{with_items_is}
 use Rattle.vt_lookup.specs.Shots.{shot_row, AreDrawn, pixels_in_rows}
 use Rattle.vt_sampler.specs.Notes.{IsTrueOf}
-use Rattle.vt_sampler.specs.Samplers.{SamplerView, IsFor, own_count, own_rows, row_length, row_in}
+use Rattle.vt_definitions.specs.Dealing.{own_count}
+use Rattle.vt_sampler.specs.Samplers.{SamplerView, IsFor, own_rows, row_length, row_in}
 use Rattle.vt_sampler.proofs.Sharing.{own_fits, own_full}
 use Rattle.vt_sampler.proofs.sampler.Sampler.draw_still.Goals as goal
 

@@ -1,5 +1,6 @@
-use Rattle.std.proofs.Common.{◌≡◌, ◌*◌, ◌∙◌, ap, subst, sym, length, refl}
-use Rattle.vt_sampler.specs.Samplers.{SamplerView, IsOwn, own_count, row_length}
+use Rattle.std.proofs.Common.{◌≡◌, ◌*◌, ◌∙◌, ap, subst, sym, length}
+use Rattle.vt_definitions.specs.Dealing.{own_count}
+use Rattle.vt_sampler.specs.Samplers.{SamplerView, IsOwn, row_length}
 use Rattle.vt_sampler.proofs.Sharing.{own_room}
 use Rattle.vt_sampler.proofs.sampler.Sampler.row.Goals as goal
 
@@ -11,4 +12,4 @@ slice_bounds-result-end c =
     let all : length c.deref.result.now ≡ own_count s.sampler s.samplers s.height * (c.texel_length.result * s.width) =
     ap length c.deref.ensures.value ∙ c.self.invariant.room ∙ ap (λ n. own_count s.sampler s.samplers s.height * n) (sym line) in
     own_room s.sampler s.samplers s.height (c.texel_length.result * s.width) c.args.y _
-    (length c.deref.result.now) c.self.invariant.one_of own.inside own.own refl all
+    (length c.deref.result.now) c.self.invariant.one_of own.inside own.own (ap (λ n. n * (c.texel_length.result * s.width)) c.turn_of.ensures.value) all

@@ -5,7 +5,8 @@ use Rattle.std.proofs.lemmas.List.{with_items_is}
 use Rattle.vt_sampler.specs.Shots.{shot_row}
 use Rattle.vt_sampler.specs.Evidence.{AreShown}
 use Rattle.vt_swap.specs.Notes.{IsSaidBy}
-use Rattle.vt_sampler.specs.Samplers.{SamplerView, IsFor, own_count, row_length, row_in}
+use Rattle.vt_definitions.specs.Dealing.{own_count}
+use Rattle.vt_sampler.specs.Samplers.{SamplerView, IsFor, row_length, row_in}
 use Rattle.vt_sampler.proofs.Sharing.{own_full}
 use Rattle.vt_swap_workers.specs.Entered.{HasEnteredRows}
 use Rattle.vt_swap_workers.proofs.sampler.SwapSampler.draw_by.Goals as goal
