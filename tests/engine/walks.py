@@ -128,7 +128,7 @@ def row(mod,name): return 'use Rattle.vt_residency.specs.contracts.%s.%s.{the_ro
 TALLY='\nuse Rattle.vt_residency.specs.Tallies.{%s}'
 def lent(name): return 'The cache is lent to `%s` for a lifetime of its own, and comes back.'%name
 gen('vtex_cache_close','close','cache',[],'IsClosed x u %s',CF%'IsClosed',lent('close'))
-gen('vtex_cache_open','open','cache',[('ref','ShapeRow',SHAPE),('num','u32',None),('num','u32',None)],'IsOpened x a.1.0.now a.1.1.0 a.1.1.1.0 u %s',CF%'IsOpened',lent('open'))
+gen('vtex_cache_open','open','cache',[('ref','ShapeRow',SHAPE),('num','u32',None),('num','u32',None)],'IsCacheOpened x a.1.0.now a.1.1.0 a.1.1.1.0 u %s',CF%'IsCacheOpened',lent('open'))
 gen('vtex_cache_pass_counts','pass_counts','cache',[('slice','u32',None),('num','u32',None)],'IsPassedBy x (slice_index a.1.0.now) (AreCounts a.1.0.now) a.1.1.0 u %s',CF%'IsPassedBy, AreCounts'+'\nuse Rattle.std.specs.Prelude.{slice_index}',lent('pass_counts'))
 gen('vtex_cache_pass_wanted','pass_wanted','cache',[('slice','ListedRow',row('feedback','Listed')),('num','u32',None)],'IsPassedBy x (pixels_of a.1.0.now) (AreListed a.1.0.now) a.1.1.0 u %s',CF%'IsPassedBy, AreListed'+TALLY%'pixels_of',lent('pass_wanted'))
 gen('vtex_cache_pass_pages','pass_pages','cache',[('slice','u32',None),('num','u32',None)],'IsPassedBy x (pixels_of (map one_pixel a.1.0.now)) (ArePages a.1.0.now) a.1.1.0 u %s',CF%'IsPassedBy, ArePages'+TALLY%'pixels_of, one_pixel'+'\nuse Rattle.std.specs.Prelude.{map}',lent('pass_pages'))
@@ -137,5 +137,5 @@ gen('vtex_cache_stale_loads','stale_loads','cache',[('slice','u32',None),('mutsl
 gen('vtex_cache_settle','settle','cache',[('slice','u8',None)],'IsSettledBy x a.1.0.now u %s',CF%'IsSettledBy',lent('settle'))
 gen('vtex_cache_changes','changes','cache',[('mutslice','ChangeRow',row('changes','Change'))],'AreChanges x a.1.0.now u ws.1.0 %s',CF%'AreChanges',lent('changes'))
 gen('vtex_cache_look_up','look_up','cache',[('num','u32',None),('mutref','PlaceRow',row('places','Place'))],'IsLookedUp x a.1.0 a.1.1.0.now u ws.1.1.0 %s',CF%'IsLookedUp',lent('look_up'))
-gen('vtex_cache_table','table','cache',[('num','u32',None),('mutslice','u32',None)],'IsTabled x a.1.0 a.1.1.0.now u ws.1.1.0 %s',CF%'IsTabled',lent('table'))
-gen('vtex_cache_info','info','cache',[('mutref','InfoRow',row('residency','Info'))],'IsTold x a.1.0.now u ws.1.0 %s',CF%'IsTold',lent('info'))
+gen('vtex_cache_table','table','cache',[('num','u32',None),('mutslice','u32',None)],'IsLevelListed x a.1.0 a.1.1.0.now u ws.1.1.0 %s',CF%'IsLevelListed',lent('table'))
+gen('vtex_cache_info','info','cache',[('mutref','InfoRow',row('residency','Info'))],'IsInfoAnswer x a.1.0.now u ws.1.0 %s',CF%'IsInfoAnswer',lent('info'))

@@ -4,10 +4,10 @@
 mod replay;
 
 pub use replay::replay_blend;
-use vt_pass::FilteredMachine;
 pub use vt_pass::WordMachine;
+use vt_pass::WordMachineBy;
 pub use vt_plain_bilinear::Bilinear;
 pub use vt_replay::{ReplayError, replay_by};
 
 /// The machine whose pixels are blends of four texels. A row is drawn under one hold, so its blends are of one version.
-pub type BlendMachine<F> = FilteredMachine<F, Bilinear>;
+pub type BlendMachine<F> = WordMachineBy<F, Bilinear>;

@@ -3,7 +3,7 @@
 ghost use Rattle.std.specs.Prelude.{◌≡◌, ◌⊎◌, ◌≤◌, ℕ, length};
 ghost use Rattle.vt_outside.specs.Counts.{Rose, added};
 ghost use Rattle.vt_replay.specs.Flaws.{IsFirstRefused};
-ghost use Rattle.vt_replay.specs.Outcomes.{Leaves, IsClosed};
+ghost use Rattle.vt_replay.specs.Outcomes.{LeavesReplay, IsStoreClosed};
 ghost use Rattle.vt_plain_bilinear.specs.Shown.{blend_under};
 
 use std::alloc::Global;
@@ -26,13 +26,13 @@ pub fn replay_blend<Rt: Threads + Sync, D: Folder>(
     journal: &[u8],
     prefix: &str,
 ) -> Result<u32, ReplayError>
-    ensures leaves { Leaves blend_under store.shape store.depth (D.File.bytes store.file) path.now journal.now prefix.now
+    ensures leaves { LeavesReplay blend_under store.shape store.depth (D.File.bytes store.file) path.now journal.now prefix.now
         (D.files folder.old) (D.files folder.new) result }
     ensures refused { (line : ℕ) → IsFirstRefused store.shape path.now.height (length path.now.cameras) journal.now line
         → (result ≡ Err (ReplayError.BadJournal line)) ⊎ (result ≡ Err ReplayError.NoMemory) }
     ensures failed { result ≡ Err ReplayError.Failed
         → Rose (added (D.faults folder.old) (D.File.faults store.file)) (D.faults folder.new) }
-    ensures closed { IsClosed store.shape store.depth (D.File.name store.file) (D.File.asked store.file)
+    ensures closed { IsStoreClosed store.shape store.depth (D.File.name store.file) (D.File.asked store.file)
         (D.asked folder.old) (D.asked folder.new) }
     ensures faults { added (D.faults folder.old) (D.File.faults store.file) ≤ D.faults folder.new }
 {

@@ -11,8 +11,8 @@ use Rattle.vt_camera.specs.PathFlaws.{IsKeyLine, IsLineFlaw, count_flaw, key_fla
 use Rattle.vt_camera.specs.PathReading.{AddsKey, IsLast, key_of}
 
 -- the key of a line, where its parts are told
-pub said_key : (line : List ℕ) (told key : LineKey) → told ≡ key → IsKeyLine line (key_of told) → IsKeyLine line (key_of key)
-said_key line told key e said = subst (λ (k : LineKey). IsKeyLine line (key_of k)) e said
+pub said_key : (line : List ℕ) (spelled key : LineKey) → spelled ≡ key → IsKeyLine line (key_of spelled) → IsKeyLine line (key_of key)
+said_key line spelled key e said = subst (λ (k : LineKey). IsKeyLine line (key_of k)) e said
 
 -- the camera before it, and that there is a picture
 pub last_is : (last : Option Camera) (from : Camera) (before : ℕ) → last ≡ Some from → IsLast last before → IsLast (Some from) before

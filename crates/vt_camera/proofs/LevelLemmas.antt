@@ -6,13 +6,13 @@ use Rattle.std.proofs.Math.Nat.{pow-le-pow_right, pow-suc, div-div-eq-div-mul}
 use Rattle.std.specs.Prelude.{nat_le, if◌then◌else◌}
 use Rattle.vt_text.specs.Sides.{side}
 use Rattle.vt_camera.specs.declared.paths.Camera.{Camera}
-use Rattle.vt_camera.specs.Rows.{level_within, camera_level, span, IsLevelOf}
+use Rattle.vt_camera.specs.Rows.{level_within, camera_level, span, IsLevelOfSpan}
 
 below_suc : (j k : ℕ) → j ≤ suc k → (j ≤ k) ⊎ (j ≡ suc k)
 below_suc j k h = grind arith
 
 -- one level more to choose from
-one_more : (p k m : ℕ) (b : Bool) → nat_le (256 * 2 ^ suc k) p ≡ b → IsLevelOf p k m → IsLevelOf p (suc k) (if b then suc k else m)
+one_more : (p k m : ℕ) (b : Bool) → nat_le (256 * 2 ^ suc k) p ≡ b → IsLevelOfSpan p k m → IsLevelOfSpan p (suc k) (if b then suc k else m)
 one_more p k m true e known =
     record { exists = omega arith; fits = inr (leb-true _ _ e); greatest = λ j within fits. within }
 one_more p k m false e known =
@@ -26,17 +26,17 @@ one_more p k m false e known =
           (below_suc j k within);
     }
 
-pub level_within_is : (p last : ℕ) → IsLevelOf p last (level_within p last)
+pub level_within_is : (p last : ℕ) → IsLevelOfSpan p last (level_within p last)
 level_within_is p zero = record { exists = omega arith; fits = inl refl; greatest = λ j within fits. within }
 level_within_is p (suc k) = one_more p k (level_within p k) (nat_le (256 * 2 ^ suc k) p) refl (level_within_is p k)
 
-no_larger : (p last k m : ℕ) → IsLevelOf p last k → IsLevelOf p last m → k ≤ m
+no_larger : (p last k m : ℕ) → IsLevelOfSpan p last k → IsLevelOfSpan p last m → k ≤ m
 no_larger p last k m a b = ⊎_elim (λ (none : k ≡ 0). omega arith) (λ (fits : 256 * 2 ^ k ≤ p). b.greatest k a.exists fits) a.fits
 
-pub same_level : (p last k m : ℕ) → IsLevelOf p last k → IsLevelOf p last m → k ≡ m
+pub same_level : (p last k m : ℕ) → IsLevelOfSpan p last k → IsLevelOfSpan p last m → k ≡ m
 same_level p last k m a b = omega (arith, no_larger p last k m a b, no_larger p last m k b a)
 
-pub level_of_is : (camera : Camera) (y levels : ℕ) → IsLevelOf (span camera y) (levels - 1) (camera_level camera y levels)
+pub level_of_is : (camera : Camera) (y levels : ℕ) → IsLevelOfSpan (span camera y) (levels - 1) (camera_level camera y levels)
 unfolding camera_level
 level_of_is camera y levels = level_within_is (span camera y) (levels - 1)
 

@@ -12,7 +12,7 @@ use Rattle.vt_camera.specs.declared.parse.PathError.TheVariants.{TooManyPictures
 use Rattle.vt_camera.specs.Paths.{PathView, IsCamera}
 use Rattle.vt_camera.specs.Ways.{camera_on_way}
 use Rattle.vt_camera.specs.PathText.{Key, At, To, IsKey, key_fields, key_camera, key_pictures, key_cameras, cameras_after, BeginsAnew, size_fields, focal_fields, path_lines, IsPathText}
-use Rattle.vt_camera.specs.PathFlaws.{IsSizeLine, IsFocalLine, IsKeyLine, count_flaw, key_flaw, IsLineFlaw, IsFlawFrom, IsFlawFromSecond, IsFlawFromFirst, IsPathFlaw}
+use Rattle.vt_camera.specs.PathFlaws.{IsSizeLine, IsFocalLine, IsKeyLine, count_flaw, key_flaw, IsLineFlaw, IsPathFlawFrom, IsFlawFromSecond, IsFlawFromFirst, IsPathFlaw}
 use Rattle.vt_camera.specs.PathReading.{IsLast}
 use Rattle.vt_text.proofs.Words.{fields_of-join, lines_of-text_of}
 use Rattle.vt_camera.proofs.PathFields.{words-size, words-focal, words-key, words-path, key_fields_injective, path_unique}
@@ -87,7 +87,7 @@ line_flaw_unique number before line e f (inr (k, is, p)) (inr (l, it, q)) =
     some_same (key_flaw number before k) e f p (ap (key_flaw number before) (key_of_line line k l is it) ∙ q)
 
 -- the lines from one on have one first refusal
-flaw_from_unique : (number before : ℕ) (lines : List (List ℕ)) (e f : PathError) → IsFlawFrom number before lines e → IsFlawFrom number before lines f → e ≡ f
+flaw_from_unique : (number before : ℕ) (lines : List (List ℕ)) (e f : PathError) → IsPathFlawFrom number before lines e → IsPathFlawFrom number before lines f → e ≡ f
 flaw_from_unique number before [] e f a b = absurd a
 flaw_from_unique number before (rest ∷ []) e f a b = a.1 ∙ sym b.1
 flaw_from_unique number before (line ∷ next ∷ lines) e f (inl a) (inl b) = line_flaw_unique number before line e f a b
@@ -95,7 +95,7 @@ flaw_from_unique number before (line ∷ next ∷ lines) e f (inl a) (inr (l, it
 flaw_from_unique number before (line ∷ next ∷ lines) e f (inr (k, is, none, later)) (inl b) = absurd (not_both number before line f k b is none)
 flaw_from_unique number before (line ∷ next ∷ lines) e f (inr (k, is, none, later)) (inr (l, it, none', later')) =
     flaw_from_unique (number + 1) (before + key_pictures k) (next ∷ lines) e f later
-    (subst (λ z. IsFlawFrom (number + 1) (before + key_pictures z) (next ∷ lines) f) (key_of_line line l k it is) later')
+    (subst (λ z. IsPathFlawFrom (number + 1) (before + key_pictures z) (next ∷ lines) f) (key_of_line line l k it is) later')
 
 flaw_second_unique : (lines : List (List ℕ)) (e f : PathError) → IsFlawFromSecond lines e → IsFlawFromSecond lines f → e ≡ f
 flaw_second_unique [] e f a b = absurd a
@@ -118,24 +118,24 @@ path_flaw_unique text e f a b = flaw_first_unique (lines_of text) e f a b
 
 -- a line before others: its own flaw, or a later one
 pub flaw_here : (number before : ℕ) (line : List ℕ) (rest : List (List ℕ)) (e : PathError) → rest ≢ []
-    → IsLineFlaw number before line e → IsFlawFrom number before (line ∷ rest) e
+    → IsLineFlaw number before line e → IsPathFlawFrom number before (line ∷ rest) e
 flaw_here number before line [] e some flaw = absurd (some refl)
 flaw_here number before line (next ∷ lines) e some flaw = inl flaw
 
 pub flaw_later : (number before : ℕ) (line : List ℕ) (rest : List (List ℕ)) (e : PathError) (key : Key) → rest ≢ []
     → IsKeyLine line key → key_flaw number before key ≡ None
-    → IsFlawFrom (number + 1) (before + key_pictures key) rest e → IsFlawFrom number before (line ∷ rest) e
+    → IsPathFlawFrom (number + 1) (before + key_pictures key) rest e → IsPathFlawFrom number before (line ∷ rest) e
 flaw_later number before line [] e key some is accepts flaw = absurd (some refl)
 flaw_later number before line (next ∷ lines) e key some is accepts flaw = inr (key, is, accepts, flaw)
 
 -- the rest of a flaw after a key's line
 flaw_after : (number before : ℕ) (line : List ℕ) (rest : List (List ℕ)) (e : PathError) (key : Key) → rest ≢ []
     → IsKeyLine line key → key_flaw number before key ≡ None
-    → IsFlawFrom number before (line ∷ rest) e → IsFlawFrom (number + 1) (before + key_pictures key) rest e
+    → IsPathFlawFrom number before (line ∷ rest) e → IsPathFlawFrom (number + 1) (before + key_pictures key) rest e
 flaw_after number before line [] e key some is accepts flaw = absurd (some refl)
 flaw_after number before line (next ∷ lines) e key some is accepts (inl a) = absurd (not_both number before line e key a is accepts)
 flaw_after number before line (next ∷ lines) e key some is accepts (inr (l, it, none, later)) =
-    subst (λ z. IsFlawFrom (number + 1) (before + key_pictures z) (next ∷ lines) e) (key_of_line line l key it is) later
+    subst (λ z. IsPathFlawFrom (number + 1) (before + key_pictures z) (next ∷ lines) e) (key_of_line line l key it is) later
 
 -- the lines of keys, with the empty rest
 abbrev pub lines_of_keys : List Key → List (List ℕ)
@@ -148,7 +148,7 @@ some_lines (key ∷ keys) e = cc
 -- the lines of accepted keys have no flaw
 no_flaw_from : (number before : ℕ) (last : Option Camera) (keys : List Key) (e : PathError) → All IsKey keys
     → (before ≡ 0 → BeginsAnew keys) → IsLast last before
-    → before + length (cameras_after last keys) ≤ most_pictures → IsFlawFrom number before (lines_of_keys keys) e → ⊥
+    → before + length (cameras_after last keys) ≤ most_pictures → IsPathFlawFrom number before (lines_of_keys keys) e → ⊥
 no_flaw_from number before last [] e each begins is room flaw = flaw.0 refl
 no_flaw_from number before last (key ∷ keys) e each begins is room flaw =
     let one : IsKey key = All-head IsKey key keys each in
@@ -162,7 +162,7 @@ no_flaw_from number before last (key ∷ keys) e each begins is room flaw =
     (flaw_after number before (join_with_byte blank (key_fields key)) (lines_of_keys keys) e key (some_lines keys) said accepts flaw)
 
 flaw_third : (line : List ℕ) (rest : List (List ℕ)) (e : PathError) (f : ℕ) → rest ≢ [] → IsFocalLine line f
-    → IsFlawFromSecond (line ∷ rest) e → IsFlawFrom 3 0 rest e
+    → IsFlawFromSecond (line ∷ rest) e → IsPathFlawFrom 3 0 rest e
 flaw_third line [] e f some is flaw = absurd (some refl)
 flaw_third line (next ∷ lines) e f some is (inl (none, p)) = absurd (none f is)
 flaw_third line (next ∷ lines) e f some is (inr (g, it, later)) = later
@@ -189,7 +189,7 @@ no_path_flaw text path e (keys, by) flaw =
     let second : IsFlawFromSecond (join_with_byte blank (focal_fields path.focal) ∷ lines_of_keys keys) e =
     flaw_second (join_with_byte blank (size_fields path.width path.height))
     (join_with_byte blank (focal_fields path.focal)) (lines_of_keys keys) e path.width path.height size first in
-    let third : IsFlawFrom 3 0 (lines_of_keys keys) e =
+    let third : IsPathFlawFrom 3 0 (lines_of_keys keys) e =
     flaw_third (join_with_byte blank (focal_fields path.focal)) (lines_of_keys keys) e path.focal (some_lines keys) focal second in
     let count : length (cameras_after None keys) ≤ most_pictures = omega (arith, p.few, ap length by.cameras) in
     no_flaw_from 3 0 None keys e by.each (λ z. by.first) refl (omega arith) third

@@ -12,7 +12,7 @@ use Rattle.vt_camera.specs.declared.parse.PathError.{PathError}
 use Rattle.vt_camera.specs.Paths.{PathView, IsCamera}
 use Rattle.vt_camera.specs.Ways.{way, camera_on_way}
 use Rattle.vt_camera.specs.PathText.{Key, At, To, IsKey, key_fields, key_camera, key_pictures, key_cameras, cameras_after, size_fields, focal_fields, path_lines, IsPathText}
-use Rattle.vt_camera.specs.PathFlaws.{IsLineFlaw, IsFlawFrom}
+use Rattle.vt_camera.specs.PathFlaws.{IsLineFlaw, IsPathFlawFrom}
 use Rattle.vt_camera.specs.PathReading.{IsHead, IsLast, AddsKey, GiveCameras, GivesPictures}
 use Rattle.vt_text.proofs.Words.{join-fields_of, text_of-lines_of}
 use Rattle.vt_camera.proofs.PathFlawLemmas.{room_of, begins_of, pictures_of, some_picture, camera_within, flaw_here, flaw_later, lines_of_keys}
@@ -43,7 +43,7 @@ pub record ReadSoFar (text : List ℕ) (start at number : ℕ) (last : Option Ca
   pub is_last : IsLast last (length cameras)
   pub given : (cs : List Camera) → GiveCameras last (length cameras) (lines_of (drop at text)) cs
       → GiveCameras None 0 (lines_of (drop start text)) (cameras ++ cs)
-  pub flaws : (e : PathError) → IsFlawFrom number (length cameras) (lines_of (drop at text)) e → IsFlawFrom 3 0 (lines_of (drop start text)) e
+  pub flaws : (e : PathError) → IsPathFlawFrom number (length cameras) (lines_of (drop at text)) e → IsPathFlawFrom 3 0 (lines_of (drop start text)) e
 
 -- a line more
 module _ (text : List ℕ) (start at end number : ℕ) (last : Option Camera) (before after : List Camera) (camera : Camera) (line : List ℕ)
@@ -75,11 +75,11 @@ module _ (text : List ℕ) (start at end number : ℕ) (last : Option Camera) (b
       (sym (ap (λ xs. xs ++ cs) added.given ∙ append_assoc before (key_cameras last added.key) cs))
       (so_far.given (key_cameras last added.key ++ cs) all)
 
-  flaws_more : (e : PathError) → IsFlawFrom (number + 1) (length after) (lines_of (drop (end + 1) text)) e → IsFlawFrom 3 0 (lines_of (drop start text)) e
+  flaws_more : (e : PathError) → IsPathFlawFrom (number + 1) (length after) (lines_of (drop (end + 1) text)) e → IsPathFlawFrom 3 0 (lines_of (drop start text)) e
   flaws_more e f =
-      so_far.flaws e (subst (λ ls. IsFlawFrom number (length before) ls e) (sym cut)
+      so_far.flaws e (subst (λ ls. IsPathFlawFrom number (length before) ls e) (sym cut)
       (flaw_later number (length before) line (lines_of (drop (end + 1) text)) e added.key (some_parts (drop (end + 1) text)) added.said added.accepted
-      (subst (λ n. IsFlawFrom (number + 1) n (lines_of (drop (end + 1) text)) e) count_is f)))
+      (subst (λ n. IsPathFlawFrom (number + 1) n (lines_of (drop (end + 1) text)) e) count_is f)))
 
   pub line_read : ReadSoFar text start (end + 1) (number + 1) (Some camera) after
   line_read =
@@ -101,10 +101,10 @@ module _ (text : List ℕ) (start at end number : ℕ) (last : Option Camera) (b
 -- a line that is refused
 pub line_refused : (text : List ℕ) (start at end number : ℕ) (last : Option Camera) (before : List Camera) (line : List ℕ) (e : PathError)
     → ReadSoFar text start at number last before
-    → lines_of (drop at text) ≡ line ∷ lines_of (drop (end + 1) text) → IsLineFlaw number (length before) line e → IsFlawFrom 3 0 (lines_of (drop start text)) e
+    → lines_of (drop at text) ≡ line ∷ lines_of (drop (end + 1) text) → IsLineFlaw number (length before) line e → IsPathFlawFrom 3 0 (lines_of (drop start text)) e
 line_refused text start at end number last before line e so_far cut flaw =
     so_far.flaws e
-    (subst (λ ls. IsFlawFrom number (length before) ls e) (sym cut)
+    (subst (λ ls. IsPathFlawFrom number (length before) ls e) (sym cut)
     (flaw_here number (length before) line (lines_of (drop (end + 1) text)) e (some_parts (drop (end + 1) text)) flaw))
 
 -- the end of the text

@@ -35,19 +35,19 @@ IsLineFlaw number before line e =
     (((key : Key) → ¬ IsKeyLine line key) × (e ≡ BadLine number)) ⊎ ((key : Key) × IsKeyLine line key × (key_flaw number before key ≡ Some e))
 
 -- the first refusal of these lines, of which the first has this number and comes after so many pictures; nothing may follow the last line feed
-abbrev pub IsFlawFrom : ℕ → ℕ → List (List ℕ) → PathError → Type 0
-IsFlawFrom number before [] e = ⊥
-IsFlawFrom number before (rest ∷ []) e = (rest ≢ []) × (e ≡ BadLine number)
-IsFlawFrom number before (line ∷ next ∷ lines) e =
+abbrev pub IsPathFlawFrom : ℕ → ℕ → List (List ℕ) → PathError → Type 0
+IsPathFlawFrom number before [] e = ⊥
+IsPathFlawFrom number before (rest ∷ []) e = (rest ≢ []) × (e ≡ BadLine number)
+IsPathFlawFrom number before (line ∷ next ∷ lines) e =
     IsLineFlaw number before line e
-    ⊎ ((key : Key) × IsKeyLine line key × (key_flaw number before key ≡ None) × IsFlawFrom (number + 1) (before + key_pictures key) (next ∷ lines) e)
+    ⊎ ((key : Key) × IsKeyLine line key × (key_flaw number before key ≡ None) × IsPathFlawFrom (number + 1) (before + key_pictures key) (next ∷ lines) e)
 
 -- the first refusal of the lines from the second on: it is missing or gives no focal number, or a later line is refused
 abbrev pub IsFlawFromSecond : List (List ℕ) → PathError → Type 0
 IsFlawFromSecond [] e = ⊥
 IsFlawFromSecond (rest ∷ []) e = e ≡ BadLine 2
 IsFlawFromSecond (line ∷ next ∷ lines) e =
-    (((focal : ℕ) → ¬ IsFocalLine line focal) × (e ≡ BadLine 2)) ⊎ ((focal : ℕ) × IsFocalLine line focal × IsFlawFrom 3 0 (next ∷ lines) e)
+    (((focal : ℕ) → ¬ IsFocalLine line focal) × (e ≡ BadLine 2)) ⊎ ((focal : ℕ) × IsFocalLine line focal × IsPathFlawFrom 3 0 (next ∷ lines) e)
 
 -- the first refusal of the lines of a path: the first is missing or gives no sides, or a later line is refused
 abbrev pub IsFlawFromFirst : List (List ℕ) → PathError → Type 0

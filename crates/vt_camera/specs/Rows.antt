@@ -98,7 +98,7 @@ abbrev pub row_spot : RowView → ℕ → ℕ × ℕ
 row_spot row x = camera_spot row.width row.focal row.camera x row.y row.surface.width row.surface.height
 
 -- k is the greatest level up to the last whose texels are no wider than the span p, or 0 where there is none (van Waveren 2012)
-pub record IsLevelOf (p last k : ℕ) : Type 0 where
+pub record IsLevelOfSpan (p last k : ℕ) : Type 0 where
   pub exists : k ≤ last
   pub fits : (k ≡ 0) ⊎ (256 * 2 ^ k ≤ p)
   pub greatest : (j : ℕ) → j ≤ last → 256 * 2 ^ j ≤ p → j ≤ k

@@ -3,12 +3,12 @@
 ghost use Rattle.std.specs.Prelude.{ℕ, ◌-◌, ◌/◌, ◌^◌, ◌<◌, ◌≤◌};
 ghost use Rattle.vt_text.specs.Sides.{side};
 ghost use Rattle.vt_camera.specs.declared.paths.Camera.{Camera};
-ghost use Rattle.vt_camera.specs.Rows.{span, camera_level, camera_place, IsLevelOf};
+ghost use Rattle.vt_camera.specs.Rows.{span, camera_level, camera_place, IsLevelOfSpan};
 
 /// A row's level is the greatest whose texels are no wider than what a pixel spans, or 0, and at most the last level.
 pub fn level_is_greatest()
     ensures { (camera : Camera) (y levels : ℕ)
-        → IsLevelOf (span camera y) (levels - 1) (camera_level camera y levels) }
+        → IsLevelOfSpan (span camera y) (levels - 1) (camera_level camera y levels) }
 {}
 
 /// A row's level is one of the chain's.

@@ -9,7 +9,7 @@ ghost use Rattle.vt_camera.specs.declared.parse.PathError.{PathError};
 ghost use Rattle.vt_camera.specs.Paths.{PathView, IsCamera};
 ghost use Rattle.vt_camera.specs.PathText.{Key, IsKey, To, camera_fields, way_fields, IsPathText};
 ghost use Rattle.vt_camera.specs.Ways.{way};
-ghost use Rattle.vt_camera.specs.PathFlaws.{IsSizeLine, IsFocalLine, IsKeyLine, count_flaw, IsLineFlaw, IsFlawFrom, IsPathFlaw};
+ghost use Rattle.vt_camera.specs.PathFlaws.{IsSizeLine, IsFocalLine, IsKeyLine, count_flaw, IsLineFlaw, IsPathFlawFrom, IsPathFlaw};
 ghost use Rattle.vt_camera.specs.PathReading.{IsNaturalAt, IsIntegerAt, AreNumbersAt, key_of, IsHead, IsLast, AddsKey, GivesPictures};
 
 use crate::paths::{Camera, Path};
@@ -276,7 +276,7 @@ fn add_key(
 fn read_keys(alloc: Global, text: &[u8], start: usize) -> Result<Vec<Camera>, PathError>
     requires { start ≤ length text.now }
     ensures { MatchResult result (λ cameras. GivesPictures (lines_of (drop start text.now)) cameras.items)
-        (λ e. (e ≡ PathError.NoMemory) ⊎ IsFlawFrom 3 0 (lines_of (drop start text.now)) e) }
+        (λ e. (e ≡ PathError.NoMemory) ⊎ IsPathFlawFrom 3 0 (lines_of (drop start text.now)) e) }
 {
     let mut cameras = Vec::new(alloc);
     let mut last: Option<Camera> = None;

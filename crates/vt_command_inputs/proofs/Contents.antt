@@ -6,11 +6,11 @@ use Rattle.vt_ppm.proofs.ImageLaws.{no_image_flaw, one_image}
 use Rattle.vt_camera.proofs.PathFlawLemmas.{no_path_flaw}
 use Rattle.vt_pages.specs.Pages.{refusal_of}
 use Rattle.vt_command_inputs.specs.Inputs
-use Rattle.vt_command_inputs.specs.Inputs.{Input, Content, texture_shape, IsContent, IsFlawOf}
+use Rattle.vt_command_inputs.specs.Inputs.{Input, InputContent, texture_shape, IsContent, IsFlawOf}
 use Rattle.vt_command_inputs.specs.declared.flaws.Flaw.{Flaw}
 
 -- bytes with a content and a flaw are none
-pub content_no_flaw : (input : Input) (bytes : List ℕ) (content : Content) (flaw : Flaw) → IsContent input bytes content → IsFlawOf input bytes flaw → ⊥
+pub content_no_flaw : (input : Input) (bytes : List ℕ) (content : InputContent) (flaw : Flaw) → IsContent input bytes content → IsFlawOf input bytes flaw → ⊥
 content_no_flaw (Inputs.PathInput name) bytes (Inputs.PathContent path) flaw is h = no_path_flaw bytes path h.0 is h.1
 content_no_flaw (Inputs.PathInput name) bytes _ flaw is h = is
 content_no_flaw (Inputs.TextureInput name) bytes (Inputs.TextureContent texture) flaw is h = no_image_flaw most_read_side bytes texture h.0 is h.1

@@ -3,7 +3,7 @@ use Rattle.std.proofs.Common.{◌≡◌, ℕ, List, [], ◌∷◌, ◌++◌, Opt
 use Rattle.std.specs.Option.{IsSome, is_some}
 use Rattle.std.proofs.lemmas.Bool.{false≢true}
 use Rattle.vt_outside.specs.Files.{Files, bytes_at}
-use Rattle.vt_command_inputs.specs.Inputs.{Input, Content, name_of, IsFlawOf}
+use Rattle.vt_command_inputs.specs.Inputs.{Input, InputContent, name_of, IsFlawOf}
 use Rattle.vt_command_inputs.specs.HeldInputs.{IsMissing}
 use Rattle.vt_command_inputs.proofs.Contents.{content_no_flaw}
 use Rattle.vt_command_inputs.specs.Causes.{Cause, MissingName, FlawedInput, cause_status, HasCause, IsAccepted, AreHeld, AreAccepted, IsFirstCause}
@@ -41,28 +41,28 @@ none_first files [] cause a h = h
 none_first files (input ∷ inputs) cause a (inl h) = accepted_no_cause files input cause a.0 h
 none_first files (input ∷ inputs) cause a (inr h) = none_first files inputs cause a.1 h.1
 
-pub held_accepted : (files : Option Files) (inputs : List Input) (contents : List Content) → AreHeld files inputs contents → AreAccepted files inputs
+pub held_accepted : (files : Option Files) (inputs : List Input) (contents : List InputContent) → AreHeld files inputs contents → AreAccepted files inputs
 held_accepted files [] [] h = tt
 held_accepted files [] (content ∷ contents) h = absurd h
 held_accepted files (input ∷ inputs) [] h = absurd h
 held_accepted files (input ∷ inputs) (content ∷ contents) h = ((content, h.0), held_accepted files inputs contents h.1)
 
-pub there_told : (files : Option Files) (name bytes : List ℕ) → bytes_at files name ≡ Some bytes → IsSome files
-there_told None name bytes there = let wrong = there in absurd (cc)
-there_told (Some f) name bytes there = refl
+pub there_known : (files : Option Files) (name bytes : List ℕ) → bytes_at files name ≡ Some bytes → IsSome files
+there_known None name bytes there = let wrong = there in absurd (cc)
+there_known (Some f) name bytes there = refl
 
-cause_told : (files : Option Files) (input : Input) (cause : Cause) → HasCause files input cause → IsSome files
-cause_told files input (MissingName name) h = h.1.told
-cause_told files input (FlawedInput name flaw) h = there_told files (name_of input) h.1.bytes h.1.there
+cause_known : (files : Option Files) (input : Input) (cause : Cause) → HasCause files input cause → IsSome files
+cause_known files input (MissingName name) h = h.1.known
+cause_known files input (FlawedInput name flaw) h = there_known files (name_of input) h.1.bytes h.1.there
 
 -- a folder of which a first cause is known tells
-pub first_told : (files : Option Files) (inputs : List Input) (cause : Cause) → IsFirstCause files inputs cause → IsSome files
-first_told files [] cause h = absurd h
-first_told files (input ∷ inputs) cause (inl h) = cause_told files input cause h
-first_told files (input ∷ inputs) cause (inr h) = first_told files inputs cause h.1
+pub first_known : (files : Option Files) (inputs : List Input) (cause : Cause) → IsFirstCause files inputs cause → IsSome files
+first_known files [] cause h = absurd h
+first_known files (input ∷ inputs) cause (inl h) = cause_known files input cause h
+first_known files (input ∷ inputs) cause (inr h) = first_known files inputs cause h.1
 
 -- so does one of which an input is known to be accepted
-pub accepted_told : (files : Option Files) (before : List Input) (input : Input) (after : List Input)
+pub accepted_known : (files : Option Files) (before : List Input) (input : Input) (after : List Input)
     → AreAccepted files (before ++ (input ∷ after)) → IsSome files
-accepted_told files [] input after a = there_told files (name_of input) a.0.1.bytes a.0.1.there
-accepted_told files (first ∷ before) input after a = accepted_told files before input after a.1
+accepted_known files [] input after a = there_known files (name_of input) a.0.1.bytes a.0.1.there
+accepted_known files (first ∷ before) input after a = accepted_known files before input after a.1

@@ -5,7 +5,7 @@ use Rattle.vt_outside.specs.Counts.{Rose}
 use Rattle.vt_outside.specs.declared.answers.OutsideError.{OutsideError}
 use Rattle.vt_outside.specs.declared.answers.OutsideError.TheVariants.{Failed, NoMemory}
 use Rattle.vt_outside.specs.Effects.{FolderState, SinkState}
-use Rattle.vt_outside.specs.Expectations.{Expected, FailsOnly, Writes, Puts, Leaves}
+use Rattle.vt_outside.specs.Expectations.{Expected, FailsOnly, Writes, PutsText, Leaves}
 use Rattle.vt_outside.proofs.Writing.{no_files, part_none, part_whole}
 
 -- nothing of what is expected was left for want of memory
@@ -29,7 +29,7 @@ left_writing expected before after out error h = (h.0, record { files = h.1; out
 
 -- the expected files were written, and what came of the text
 pub left_putting : (expected : Expected) (before after : FolderState) (out shown : SinkState) (r : Result (Unit {0}) OutsideError)
-    → Writes {T = Unit {0}} expected.files (record { before = before; after = after }) (Ok tt) → Puts expected.text (record { before = out; after = shown }) r
+    → Writes {T = Unit {0}} expected.files (record { before = before; after = after }) (Ok tt) → PutsText expected.text (record { before = out; after = shown }) r
     → Leaves expected (record { folder = record { before = before; after = after }; out = record { before = out; after = shown } }) r
 left_putting expected before after out shown (Ok u) h put = (h.0, record { files = h.1; out = put })
 left_putting expected before after out shown (Err error) h put = (
@@ -44,7 +44,7 @@ left_putting expected before after out shown (Err error) h put = (
 
 -- a text alone is expected
 pub left_text : (text : List ℕ) (s : FolderState) (out shown : SinkState) (r : Result (Unit {0}) OutsideError)
-    → Puts text (record { before = out; after = shown }) r
+    → PutsText text (record { before = out; after = shown }) r
     → Leaves (record { files = []; text = text }) (record { folder = record { before = s; after = s }; out = record { before = out; after = shown } }) r
 left_text text s out shown r put =
     left_putting (record { files = []; text = text }) s s out shown r (record { asked = refl; faults = omega arith }, no_files s.files) put

@@ -8,7 +8,7 @@ use Rattle.vt_outside.specs.Files.{gained}
 use Rattle.vt_outside.specs.declared.answers.OutsideError.{OutsideError}
 use Rattle.vt_outside.specs.declared.answers.OutsideError.TheVariants.{Failed}
 use Rattle.vt_outside.specs.Effects.{SinkEffect}
-use Rattle.vt_outside.specs.Expectations.{Puts}
+use Rattle.vt_outside.specs.Expectations.{PutsText}
 use Rattle.vt_outside.proofs.Writing.{fails_as}
 
 -- the text of three pieces, of which each is known
@@ -24,7 +24,7 @@ pub pieces_put : (given text : List ℕ) (g : SinkEffect) (r : Result (Unit {0})
     → OnOk r (g.after.held ≡ option_map (gained given) g.before.held)
     → OnErr r ((k : ℕ) × (g.after.held ≡ option_map (gained (take k given)) g.before.held))
     → (r ≡ Err Failed → Rose g.before.faults g.after.faults)
-    → Puts text g r
+    → PutsText text g r
 pieces_put given text g (Ok t) same whole part failed = whole ∙ ap (λ (t : List ℕ). option_map (gained t) g.before.held) same
 pieces_put given text g (Err error) same whole part failed = (
   (part.0, part.1 ∙ ap (λ (t : List ℕ). option_map (gained (take part.0 t)) g.before.held) same),

@@ -10,18 +10,18 @@ use Rattle.vt_outside.proofs.Refusing.{rose_later}
 use Rattle.vt_ppm.specs.declared.error.PpmError.{PpmError}
 use Rattle.vt_ppm.specs.declared.header.Header.{Header}
 use Rattle.vt_ppm.specs.Format.{IsTexture}
-use Rattle.vt_ppm.specs.Reads.{AsksHeader, ReadsFront}
-use Rattle.vt_ppm.specs.Strips.{HasRasterIfTold, ChecksPieces, texture_of}
+use Rattle.vt_ppm.specs.Reads.{AsksPpmHeader, ReadsFront}
+use Rattle.vt_ppm.specs.Strips.{HasRasterIfKnown, ChecksPieces, texture_of}
 use Rattle.vt_outside.specs.Effects.{FolderEffect}
 use Rattle.vt_command_inputs.specs.Inputs.{Input, AreStrips, AsksStrips, IsFlawOf}
-use Rattle.vt_command_inputs.specs.Reads.{FileState, Visits, IsCausedIn, LooksOver, MayLookOver, SeesTexture, OpensTexture}
+use Rattle.vt_command_inputs.specs.Reads.{OpenFileState, Visits, IsCausedIn, LooksOver, MayLookOver, SeesTexture, OpensTexture}
 use Rattle.vt_command_inputs.specs.declared.refusal.Refusal.{Refusal}
 use Rattle.vt_command_inputs.specs.declared.refusal.Refusal.TheVariants.{NoMemory, Usage, Fault, Flawed, TooFewFrames, DoesNotFit}
 
 -- the header was read, and then rows
-pub seen : (told : Option (List ℕ)) (header : Header) (answer : Result (Unit {0}) PpmError) (before mid after : Option (List Place))
-    → ReadsFront told before mid → HasRasterIfTold told header → LooksOver header answer mid after → SeesTexture told header answer before after
-seen told header answer before mid after front behind rows = record {
+pub seen : (known : Option (List ℕ)) (header : Header) (answer : Result (Unit {0}) PpmError) (before mid after : Option (List Place))
+    → ReadsFront known before mid → HasRasterIfKnown known header → LooksOver header answer mid after → SeesTexture known header answer before after
+seen known header answer before mid after front behind rows = record {
   each = λ old is.
       let here : mid ≡ Some (old ++ (front.front ∷ [])) = front.gained ∙ ap (option_map (λ held. held ++ (front.front ∷ []))) is in
       let there : after ≡ Some ((old ++ (front.front ∷ [])) ++ rows.rows.places) =
@@ -37,7 +37,7 @@ seen told header answer before mid after front behind rows = record {
           pieces = λ may. subst (λ (a : Option (List Place)). ChecksPieces header answer (Some (old ++ (front.front ∷ []))) a) there
               (subst (λ (b : Option (List Place)). ChecksPieces header answer b after) here (rows.pieces may));
           unread = λ never. append_cancel_left (old ++ (front.front ∷ [])) rows.rows.places []
-              (ap (λ (told : Option (List Place)). unwrap_or told []) (sym there ∙ rows.unread never ∙ here) ∙ sym (append-nil (old ++ (front.front ∷ []))));
+              (ap (λ (known : Option (List Place)). unwrap_or known []) (sym there ∙ rows.unread never ∙ here) ∙ sym (append-nil (old ++ (front.front ∷ []))));
           rows = rows.rows.each;
           are = refl;
         },
@@ -46,7 +46,7 @@ seen told header answer before mid after front behind rows = record {
 }
 
 -- the header and then rows were asked
-rows_visited : (tile : ℕ) (before after : FileState) (header : Header) (answer : Result (Unit {0}) PpmError) (asked : Option (List Place))
+rows_visited : (tile : ℕ) (before after : OpenFileState) (header : Header) (answer : Result (Unit {0}) PpmError) (asked : Option (List Place))
     → before.asked ≡ asked → SeesTexture before.bytes header answer before.asked after.asked → (before.asked ≡ None → after.asked ≡ None)
     → after.bytes ≡ before.bytes → after.name ≡ before.name → before.faults ≤ after.faults
     → Visits (AsksStrips tile) (record { before = before; after = after })
@@ -75,8 +75,8 @@ none_then first next before mid after a b is =
     b ∙ ap (option_map (λ held. held ++ next)) (a ∙ ap (option_map (λ held. held ++ first)) is)
 
 -- the header was read, and then rows or nothing
-pub tried_visited : (tile : ℕ) (before after : FileState) (mid : Option (List Place)) (header : Header)
-    → AsksHeader before.bytes before.asked mid → ReadsFront before.bytes before.asked mid → HasRasterIfTold before.bytes header
+pub tried_visited : (tile : ℕ) (before after : OpenFileState) (mid : Option (List Place)) (header : Header)
+    → AsksPpmHeader before.bytes before.asked mid → ReadsFront before.bytes before.asked mid → HasRasterIfKnown before.bytes header
     → MayLookOver header mid after.asked
     → after.bytes ≡ before.bytes → after.name ≡ before.name → before.faults ≤ after.faults
     → Visits (AsksStrips tile) (record { before = before; after = after })
@@ -95,7 +95,7 @@ tried_visited tile before after mid header asks front behind (inr rows) bytes na
     bytes name faults
 
 -- why an open file was refused that was read before
-pub caused_later : (input : Input) (old mid new : FileState) (refusal : Refusal) → mid.bytes ≡ old.bytes → old.faults ≤ mid.faults
+pub caused_later : (input : Input) (old mid new : OpenFileState) (refusal : Refusal) → mid.bytes ≡ old.bytes → old.faults ≤ mid.faults
     → IsCausedIn input (record { before = mid; after = new }) refusal → IsCausedIn input (record { before = old; after = new }) refusal
 caused_later input old mid new NoMemory bytes faults h = tt
 caused_later input old mid new Usage bytes faults h = h
@@ -103,27 +103,27 @@ caused_later input old mid new (TooFewFrames frames needed) bytes faults h = h
 caused_later input old mid new (DoesNotFit picture wanted room) bytes faults h = h
 caused_later input old mid new Fault bytes faults h = rose_later old.faults mid.faults new.faults faults h
 caused_later input old mid new (Flawed name flaw) bytes faults h =
-    (h.0, h.1, subst (λ (told : Option (List ℕ)). IfSome told (λ b. IsFlawOf input b flaw)) bytes h.2)
+    (h.0, h.1, subst (λ (known : Option (List ℕ)). IfSome known (λ b. IsFlawOf input b flaw)) bytes h.2)
 
 texture_held : (name : List ℕ) (header : Header) (o : Option (List ℕ)) (files : Option Files) → o ≡ bytes_at files name → is_some o ≡ is_some files
     → ((b : List ℕ) → o ≡ Some b → IsTexture b (texture_of header b)) → IsSome files
     → (b : List ℕ) × (o ≡ Some b) × (bytes_at files name ≡ Some b) × IsTexture b (texture_of header b)
-texture_held name header None files same tells is told = absurd (false≢true (tells ∙ told))
-texture_held name header (Some b) files same tells is told = (b, refl, sym same, is b refl)
+texture_held name header None files same known_too is known = absurd (false≢true (known_too ∙ known))
+texture_held name header (Some b) files same known_too is known = (b, refl, sym same, is b refl)
 
 -- what a folder of known content holds of a texture that was opened
-pub texture_there : (name : List ℕ) (header : Header) (file : FileState) (p : FolderEffect) → OpensTexture name header file p → IsSome p.before.files
+pub texture_there : (name : List ℕ) (header : Header) (file : OpenFileState) (p : FolderEffect) → OpensTexture name header file p → IsSome p.before.files
     → (b : List ℕ) × (file.bytes ≡ Some b) × (bytes_at p.before.files name ≡ Some b) × IsTexture b (texture_of header b)
-texture_there name header file p o told = texture_held name header file.bytes p.before.files o.bytes o.tells o.is.each told
+texture_there name header file p o known = texture_held name header file.bytes p.before.files o.bytes o.known_too o.is.each known
 
 -- a texture that was looked over and then read by strips was asked for nothing else
-pub strips_asked : (name of : List ℕ) (tile : ℕ) (told there : Option (List ℕ)) (header : Header) (strips : List Place) (asked after : Option Asked)
+pub strips_asked : (name of : List ℕ) (tile : ℕ) (known there : Option (List ℕ)) (header : Header) (strips : List Place) (asked after : Option Asked)
     (held : Option (List Place))
-    → told ≡ there → SeesTexture told header (Ok tt) (option_map (λ _. []) asked) held → OnSome asked (of ≡ name) → AreStrips header tile strips
+    → known ≡ there → SeesTexture known header (Ok tt) (option_map (λ _. []) asked) held → OnSome asked (of ≡ name) → AreStrips header tile strips
     → after ≡ option_map (with_places of (option_map (λ (old : List Place). old ++ strips) held)) asked
     → (places : List Place) × AsksStrips tile there places × (after ≡ option_map (with_places name (Some places)) asked)
-strips_asked name of tile told there header strips None after held same sees named are is = ([], inl tt, is)
-strips_asked name of tile told there header strips (Some a) after held same sees named are is =
+strips_asked name of tile known there header strips None after held same sees named are is = ([], inl tt, is)
+strips_asked name of tile known there header strips (Some a) after held same sees named are is =
     let places = sees.each [] refl in (
       places.0 ++ strips,
       subst (λ (t : Option (List ℕ)). AsksStrips tile t (places.0 ++ strips)) same (inr (inr (header, places.0, strips, places.1, are, refl))),

@@ -3,7 +3,7 @@ use Rattle.std.specs.Prelude.{◌≡◌, ◌⊎◌, ℕ, List, [], ◌∷◌, �
 use Rattle.vt_outside.specs.Files.{Files, Asked, bytes_at, with_places}
 use Rattle.vt_outside.specs.declared.place.Place.{Place}
 use Rattle.vt_outside.specs.Effects.{FolderEffect}
-use Rattle.vt_command_inputs.specs.Inputs.{Input, Content, name_of, MayAsk}
+use Rattle.vt_command_inputs.specs.Inputs.{Input, InputContent, name_of, MayAsk}
 use Rattle.vt_command_inputs.specs.HeldInputs.{Holds, HasFlaw, IsMissing}
 use Rattle.vt_command_inputs.specs.declared.flaws.Flaw.{Flaw}
 
@@ -24,10 +24,10 @@ HasCause files input (FlawedInput name flaw) = (name ≡ name_of input) × HasFl
 
 -- an input is there and accepted
 abbrev pub IsAccepted : Option Files → Input → Type 0
-IsAccepted files input = (content : Content) × Holds files input content
+IsAccepted files input = (content : InputContent) × Holds files input content
 
 -- the inputs hold these contents, one by one
-abbrev pub AreHeld : Option Files → List Input → List Content → Type 0
+abbrev pub AreHeld : Option Files → List Input → List InputContent → Type 0
 AreHeld files [] [] = Unit {0}
 AreHeld files (input ∷ inputs) (content ∷ contents) = Holds files input content × AreHeld files inputs contents
 AreHeld files _ _ = ⊥

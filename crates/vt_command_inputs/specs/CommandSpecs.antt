@@ -4,7 +4,7 @@ use Rattle.vt_text.specs.Places.{bad_input_line}
 use Rattle.vt_outside.specs.Effects.{CallEffect, IsWithoutEffect}
 use Rattle.vt_command_inputs.specs.Flaws.{flaw_place}
 use Rattle.vt_command_inputs.specs.Lines.{frames_line, unfit_line}
-use Rattle.vt_command_inputs.specs.Inputs.{Input, Content}
+use Rattle.vt_command_inputs.specs.Inputs.{Input, InputContent}
 use Rattle.vt_command_inputs.specs.Causes.{MissingName, AreHeld, IsFirstCause, AsksInOrder}
 use Rattle.vt_outside.specs.Expectations.{Done, Stopped}
 use Rattle.vt_command_inputs.specs.Tasks.{Task, HasBadInput, HasRisen}
@@ -40,10 +40,10 @@ conflict_line usage (LargePicture picture wanted room) = unfit_line picture want
 pub record CommandSpec : Type 1 where
   pub inputs : List Input
   pub asks : CallEffect → Type 0
-  pub conflicts : List Content → Conflict → Type 0
-  pub done : List Content → CallEffect → Type 0
-  pub stopped : List Content → CallEffect → Type 0
-  pub unfit : List Content → ℕ → CallEffect → Type 0
+  pub conflicts : List InputContent → Conflict → Type 0
+  pub done : List InputContent → CallEffect → Type 0
+  pub stopped : List InputContent → CallEffect → Type 0
+  pub unfit : List InputContent → ℕ → CallEffect → Type 0
   pub failed : CallEffect → Type 0
 
 -- a task as a specification: nothing stands in its way but its inputs
@@ -58,9 +58,9 @@ task_spec task = record {
   failed = HasRisen;
 }
 
--- the inputs are accepted, as far as that is told, nothing stands in the way of what they hold, and what is expected of them is there
+-- the inputs are accepted, as far as that is known, nothing stands in the way of what they hold, and what is expected of them is there
 pub record DoneBy (spec : CommandSpec) (c : CallEffect) : Type 0 where
-  pub contents : List Content
+  pub contents : List InputContent
   pub count : length contents ≡ length spec.inputs
   pub held : IsSome c.folder.before.files → AreHeld c.folder.before.files spec.inputs contents
   pub free : (conflict : Conflict) → spec.conflicts contents conflict → ⊥
@@ -68,7 +68,7 @@ pub record DoneBy (spec : CommandSpec) (c : CallEffect) : Type 0 where
 
 -- the inputs are accepted, and the command was stopped on the way
 pub record StoppedBy (spec : CommandSpec) (c : CallEffect) : Type 0 where
-  pub contents : List Content
+  pub contents : List InputContent
   pub count : length contents ≡ length spec.inputs
   pub held : IsSome c.folder.before.files → AreHeld c.folder.before.files spec.inputs contents
   pub stopped : spec.stopped contents c
@@ -78,19 +78,19 @@ abbrev pub LeftBySpec : CommandSpec → CallEffect → Type 0
 LeftBySpec spec c = IsWithoutEffect c ⊎ StoppedBy spec c
 
 -- what is left where a conflict was met
-abbrev pub StandsAt : CommandSpec → List Content → Conflict → CallEffect → Type 0
-StandsAt spec contents (FlawedBeside name flaw) c = IsWithoutEffect c
-StandsAt spec contents ManyTexels c = IsWithoutEffect c
-StandsAt spec contents (FewFrames frames needed) c = IsWithoutEffect c
-StandsAt spec contents (LargePicture picture wanted room) c = spec.unfit contents picture c
+abbrev pub LeavesAtConflict : CommandSpec → List InputContent → Conflict → CallEffect → Type 0
+LeavesAtConflict spec contents (FlawedBeside name flaw) c = IsWithoutEffect c
+LeavesAtConflict spec contents ManyTexels c = IsWithoutEffect c
+LeavesAtConflict spec contents (FewFrames frames needed) c = IsWithoutEffect c
+LeavesAtConflict spec contents (LargePicture picture wanted room) c = spec.unfit contents picture c
 
 -- the inputs are accepted, and this stands in the way of what they hold
 pub record IsInConflict (spec : CommandSpec) (c : CallEffect) (conflict : Conflict) : Type 0 where
-  pub contents : List Content
+  pub contents : List InputContent
   pub count : length contents ≡ length spec.inputs
   pub held : IsSome c.folder.before.files → AreHeld c.folder.before.files spec.inputs contents
   pub conflicts : spec.conflicts contents conflict
-  pub stands : StandsAt spec contents conflict c
+  pub stands : LeavesAtConflict spec contents conflict c
 
 -- a call failed, or a missing name is the first cause
 abbrev pub HasFaultBy : CommandSpec → CallEffect → Type 0
@@ -119,5 +119,5 @@ abbrev pub EndsBy : {T : Type 0} → CommandSpec → CallEffect → Result T Ref
 EndsBy spec c result = spec.asks c × ComesToBy spec c result
 
 -- it ended as its task says
-abbrev pub Ends : {T : Type 0} → Task → CallEffect → Result T Refusal → Type 0
-Ends task c result = EndsBy (task_spec task) c result
+abbrev pub EndsAs : {T : Type 0} → Task → CallEffect → Result T Refusal → Type 0
+EndsAs task c result = EndsBy (task_spec task) c result

@@ -7,7 +7,7 @@ use Rattle.vt_ppm.specs.Image.{ImageView}
 use Rattle.vt_ppm.specs.Format.{IsImage, IsTexture}
 use Rattle.vt_ppm.specs.Flaws.{IsImageFlaw, IsHeaderFlaw}
 use Rattle.vt_ppm.specs.Reads.{IsFrontPlace, AreHeaderPlaces, AreImagePlaces}
-use Rattle.vt_ppm.specs.Strips.{HasRasterIfTold, MayBeOver, ChecksPieces, IsRowsPlace}
+use Rattle.vt_ppm.specs.Strips.{HasRasterIfKnown, MayBeOver, ChecksPieces, IsRowsPlace}
 use Rattle.vt_ppm.specs.declared.header.Header.{Header}
 use Rattle.vt_ppm.specs.declared.error.PpmError.{PpmError}
 use Rattle.vt_camera.specs.Paths.{PathView}
@@ -18,7 +18,7 @@ use Rattle.vt_pages.specs.Shape.{Shape, shape_of}
 use Rattle.vt_pages.specs.Pages.{refusal_of}
 use Rattle.vt_pages.specs.declared.PagesError.TheVariants as pages_error
 use Rattle.vt_tiles.specs.Format.{store_flaw, header_length}
-use Rattle.vt_tiles.specs.StoreViews.{IsStore, IsStoreIfTold}
+use Rattle.vt_tiles.specs.StoreViews.{IsStore, IsStoreIfKnown}
 use Rattle.vt_tiles.specs.Places.{IsTilePlace, pieces_of, piece_place, piece_places}
 use Rattle.vt_ppm.specs.StripPlaces.{strips_of, strip_place, strip_places}
 use Rattle.vt_tiles.specs.declared.error.StoreError.{StoreError}
@@ -39,13 +39,13 @@ pub data Input : Type 0 where
 
 -- what an input holds; a store's header tells the shape of its pages and its depth, and of a store whose tiles are read all bytes count;
 -- any bytes are a journal's text, which is judged beside the path and the store
-pub data Content : Type 0 where
-  PathContent : PathView → Content
-  TextureContent : ImageView → Content
-  StoreContent : Shape → ℕ → Content
-  NarrowContent : Shape → List ℕ → Content
-  PagedContent : Shape → ℕ → List ℕ → Content
-  TextContent : List ℕ → Content
+pub data InputContent : Type 0 where
+  PathContent : PathView → InputContent
+  TextureContent : ImageView → InputContent
+  StoreContent : Shape → ℕ → InputContent
+  NarrowContent : Shape → List ℕ → InputContent
+  PagedContent : Shape → ℕ → List ℕ → InputContent
+  TextContent : List ℕ → InputContent
 
 -- the name of an input
 abbrev pub name_of : Input → List ℕ
@@ -62,7 +62,7 @@ abbrev pub texture_shape : ImageView → ℕ → Shape
 texture_shape texture tile = shape_of texture.width texture.height tile
 
 -- the bytes are those of an input with this content
-abbrev pub IsContent : Input → List ℕ → Content → Type 0
+abbrev pub IsContent : Input → List ℕ → InputContent → Type 0
 IsContent (PathInput name) bytes (PathContent path) = IsPathText bytes path
 IsContent (TextureInput name) bytes (TextureContent texture) = IsImage bytes texture
 IsContent (TiledTexture name tile) bytes (TextureContent texture) = IsTexture bytes texture × (refusal_of (texture_shape texture tile) ≡ None)
@@ -113,14 +113,14 @@ IsFlawOf (PagedStore name) bytes flaw = IsFlawOfStore bytes flaw
 IsFlawOf (JournalInput name) bytes flaw = ⊥
 
 -- the flaw is of a kind that an input may have, whatever its bytes
-abbrev pub Fits : Input → Flaw → Type 0
-Fits (PathInput name) flaw = (e : PathError) × (flaw_of_path e ≡ Ok flaw)
-Fits (TextureInput name) flaw = (e : PpmError) × (flaw_of_texture e ≡ Ok flaw)
-Fits (TiledTexture name tile) flaw = ((e : PpmError) × (flaw_of_texture e ≡ Ok flaw)) ⊎ ((n : ℕ) × (flaw ≡ TooManyPages n))
-Fits (StoreInput name) flaw = (e : StoreError) × (flaw_of_store e ≡ Ok flaw)
-Fits (NarrowStore name) flaw = ((e : StoreError) × (flaw_of_store e ≡ Ok flaw)) ⊎ (flaw ≡ AlreadyWide)
-Fits (PagedStore name) flaw = (e : StoreError) × (flaw_of_store e ≡ Ok flaw)
-Fits (JournalInput name) flaw = ⊥
+abbrev pub FlawFits : Input → Flaw → Type 0
+FlawFits (PathInput name) flaw = (e : PathError) × (flaw_of_path e ≡ Ok flaw)
+FlawFits (TextureInput name) flaw = (e : PpmError) × (flaw_of_texture e ≡ Ok flaw)
+FlawFits (TiledTexture name tile) flaw = ((e : PpmError) × (flaw_of_texture e ≡ Ok flaw)) ⊎ ((n : ℕ) × (flaw ≡ TooManyPages n))
+FlawFits (StoreInput name) flaw = (e : StoreError) × (flaw_of_store e ≡ Ok flaw)
+FlawFits (NarrowStore name) flaw = ((e : StoreError) × (flaw_of_store e ≡ Ok flaw)) ⊎ (flaw ≡ AlreadyWide)
+FlawFits (PagedStore name) flaw = (e : StoreError) × (flaw_of_store e ≡ Ok flaw)
+FlawFits (JournalInput name) flaw = ⊥
 
 -- no place was asked, or one from the beginning on, of a length
 abbrev pub AsksFront : (ℕ → Type 0) → List Place → Type 0
@@ -128,11 +128,11 @@ AsksFront IsLength places = (places ≡ []) ⊎ ((n : ℕ) × (failed : Bool) ×
 
 -- all bytes may be asked at once
 abbrev pub AsksWhole : Option (List ℕ) → List Place → Type 0
-AsksWhole told places = AsksFront (λ n. IfSome told (λ bytes. n ≡ length bytes)) places
+AsksWhole known places = AsksFront (λ n. IfSome known (λ bytes. n ≡ length bytes)) places
 
 -- the header of a store may be asked, or all bytes where there are fewer
-abbrev pub AsksHeader : Option (List ℕ) → List Place → Type 0
-AsksHeader told places = AsksFront (λ n. (n ≤ header_length) × IfSome told (λ bytes. n ≡ min (length bytes) header_length)) places
+abbrev pub MayAskHeader : Option (List ℕ) → List Place → Type 0
+MayAskHeader known places = AsksFront (λ n. (n ≤ header_length) × IfSome known (λ bytes. n ≡ min (length bytes) header_length)) places
 
 -- the first so many pieces of a store of one-byte samples, each once and in order, of which the last read may have failed
 abbrev pub ArePieces : Shape → List Place → Type 0
@@ -145,24 +145,24 @@ header_places = noted 0 header_length false []
 
 -- the header of a store may be asked, or, of a store of one-byte samples, the whole header and then its pieces
 abbrev pub AsksPieces : Option (List ℕ) → List Place → Type 0
-AsksPieces told places = AsksHeader told places
-    ⊎ ((shape : Shape) × (pieces : List Place) × IfSome told (λ bytes. IsStore bytes shape 1) × ArePieces shape pieces × (places ≡ header_places ++ pieces))
+AsksPieces known places = MayAskHeader known places
+    ⊎ ((shape : Shape) × (pieces : List Place) × IfSome known (λ bytes. IsStore bytes shape 1) × ArePieces shape pieces × (places ≡ header_places ++ pieces))
 
 -- the header of a store may be asked, or the whole header and then tiles of its pages
 abbrev pub AsksTiles : Option (List ℕ) → List Place → Type 0
-AsksTiles told places = AsksHeader told places
-    ⊎ ((shape : Shape) × (depth : ℕ) × (tiles : List Place) × IsStoreIfTold told shape depth × All (IsTilePlace shape depth) tiles
+AsksTiles known places = MayAskHeader known places
+    ⊎ ((shape : Shape) × (depth : ℕ) × (tiles : List Place) × IsStoreIfKnown known shape depth × All (IsTilePlace shape depth) tiles
     × (places ≡ header_places ++ tiles))
 
 -- the places of a texture that was looked over, with what came of it: a prefix that holds its header, and then, behind whatever places
 -- were asked before, those of the rows that were looked over, which are none where no sample may be above the maximum
-pub record AreSeenPlaces (told : Option (List ℕ)) (header : Header) (answer : Result (Unit {0}) PpmError) (places : List Place) : Type 0 where
+pub record AreSeenPlaces (known : Option (List ℕ)) (header : Header) (answer : Result (Unit {0}) PpmError) (places : List Place) : Type 0 where
   pub front : Place
   pub earlier : List Place
   pub seen : List Place
-  pub is_front : IsFrontPlace told front
+  pub is_front : IsFrontPlace known front
   pub front_read : front.failed ≡ false
-  pub behind : HasRasterIfTold told header
+  pub behind : HasRasterIfKnown known header
   pub pieces : MayBeOver header → ChecksPieces header answer (Some earlier) (Some (earlier ++ seen))
   pub unread : (MayBeOver header → ⊥) → seen ≡ []
   pub rows : All (IsRowsPlace header) seen
@@ -175,9 +175,9 @@ AreStrips header tile places = (n : ℕ) × (n ≤ strips_of header tile) × ((p
 
 -- the header of a texture may be asked; or then its rows, to look them over; or then, where no sample is above the maximum, its strips
 abbrev pub AsksStrips : ℕ → Option (List ℕ) → List Place → Type 0
-AsksStrips tile told places = AreHeaderPlaces told places
-    ⊎ (((header : Header) × (answer : Result (Unit {0}) PpmError) × AreSeenPlaces told header answer places)
-    ⊎ ((header : Header) × (seen : List Place) × (strips : List Place) × AreSeenPlaces told header (Ok tt) seen × AreStrips header tile strips
+AsksStrips tile known places = AreHeaderPlaces known places
+    ⊎ (((header : Header) × (answer : Result (Unit {0}) PpmError) × AreSeenPlaces known header answer places)
+    ⊎ ((header : Header) × (seen : List Place) × (strips : List Place) × AreSeenPlaces known header (Ok tt) seen × AreStrips header tile strips
     × (places ≡ seen ++ strips)))
 
 -- how many rows a strip has of a texture that is not cut into tiles
@@ -186,15 +186,15 @@ texture_strip = 128
 
 -- the header of a texture may be asked, and then its raster, at once or by strips
 abbrev pub AsksTexture : Option (List ℕ) → List Place → Type 0
-AsksTexture told places = AreImagePlaces told places ⊎ AsksStrips texture_strip told places
+AsksTexture known places = AreImagePlaces known places ⊎ AsksStrips texture_strip known places
 
--- the places that may be asked of an input whose bytes may be told: of a texture a prefix that holds its header, and then its raster,
+-- the places that may be asked of an input whose bytes may be known: of a texture a prefix that holds its header, and then its raster,
 -- at once or by rows; if it is cut into tiles, by rows
 abbrev pub MayAsk : Input → Option (List ℕ) → List Place → Type 0
 MayAsk (PathInput name) = AsksWhole
 MayAsk (TextureInput name) = AsksTexture
 MayAsk (TiledTexture name tile) = AsksStrips tile
-MayAsk (StoreInput name) = AsksHeader
+MayAsk (StoreInput name) = MayAskHeader
 MayAsk (NarrowStore name) = AsksPieces
 MayAsk (PagedStore name) = AsksTiles
 MayAsk (JournalInput name) = AsksWhole

@@ -7,10 +7,10 @@ use Rattle.vt_outside.specs.declared.answers.OutsideError.{OutsideError}
 use Rattle.vt_outside.specs.declared.answers.OutsideError.TheVariants.{Failed}
 use Rattle.vt_tiles.specs.Made.{HoldsMade, HoldsMadeFront}
 use Rattle.vt_outside.specs.Effects.{FolderEffect}
-use Rattle.vt_command_inputs.specs.Reads.{FileState}
+use Rattle.vt_command_inputs.specs.Reads.{OpenFileState}
 
 -- the name holds what the bytes of an open file make, or a prefix of it; the file was asked for such places, and closed
-pub record WritesMade (file : FileState) (made : List ℕ → List ℕ) (Are : List Place → Type 0) (name : List ℕ) (p : FolderEffect)
+pub record WritesMade (file : OpenFileState) (made : List ℕ → List ℕ) (Are : List Place → Type 0) (name : List ℕ) (p : FolderEffect)
     (result : Result (Unit {0}) OutsideError) : Type 0 where
   pub whole : OnOk result (HoldsMade file.bytes made name p.before.files p.after.files)
   pub part : OnErr result ((p.after.files ≡ p.before.files) ⊎ HoldsMadeFront file.bytes made name p.before.files p.after.files)

@@ -5,7 +5,7 @@ use Rattle.std.specs.declared.io.ErrorKind.TheVariants as kinds
 use Rattle.vt_outside.specs.declared.answers.OutsideError.{OutsideError}
 use Rattle.vt_outside.specs.declared.answers.OutsideError.TheVariants as outside
 use Rattle.vt_text.specs.Places.{bad_input_line}
-use Rattle.vt_text.specs.Telling.{Tells}
+use Rattle.vt_text.specs.Printing.{Prints}
 use Rattle.vt_command_words.specs.declared.arguments.WordsError.{WordsError}
 use Rattle.vt_command_words.specs.declared.arguments.WordsError.TheVariants as words
 use Rattle.vt_outside.specs.Effects.{SinkEffect}
@@ -55,13 +55,13 @@ refusal_line usage (TooFewFrames frames needed) = frames_line frames needed
 refusal_line usage (DoesNotFit picture wanted room) = unfit_line picture wanted room
 
 -- the text was put on the error output, or a prefix of it where a put was refused
-abbrev pub Told : List ℕ → SinkEffect → Type 0
-Told text g = Tells text g.before.held g.after.held g.before.faults g.after.faults g.before.refusals g.after.refusals
+abbrev pub Printed : List ℕ → SinkEffect → Type 0
+Printed text g = Prints text g.before.held g.after.held g.before.faults g.after.faults g.before.refusals g.after.refusals
 
--- of a command that is done nothing is told, and of a refusal its line
-abbrev pub EndTold : {T : Type 0} → List ℕ → Result T Refusal → SinkEffect → Type 0
-EndTold usage (Ok _) g = g.after ≡ g.before
-EndTold usage (Err refusal) g = Told (refusal_line usage refusal) g
+-- of a command that is done nothing is printed, and of a refusal its line
+abbrev pub EndPrinted : {T : Type 0} → List ℕ → Result T Refusal → SinkEffect → Type 0
+EndPrinted usage (Ok _) g = g.after ≡ g.before
+EndPrinted usage (Err refusal) g = Printed (refusal_line usage refusal) g
 
 -- the refusal where the words could not be read: a word that is no text is none of a command's
 abbrev pub unread_refusal : ErrorKind → Refusal

@@ -2,7 +2,7 @@
 use Rattle.std.specs.Prelude.{◌≡◌, ◌⊎◌, ℕ, List, ◌∷◌, IsSome, ◌++◌}
 use Rattle.vt_outside.specs.Counts.{Rose}
 use Rattle.vt_outside.specs.Effects.{CallEffect, IsWithoutEffect}
-use Rattle.vt_command_inputs.specs.Inputs.{Input, Content, name_of, Fits}
+use Rattle.vt_command_inputs.specs.Inputs.{Input, InputContent, name_of, FlawFits}
 use Rattle.vt_command_inputs.specs.Causes.{MissingName, FlawedInput, IsFirstCause}
 use Rattle.vt_outside.specs.Expectations.{Expected}
 use Rattle.vt_command_inputs.specs.declared.flaws.Flaw.{Flaw}
@@ -12,7 +12,7 @@ use Rattle.vt_command_inputs.specs.declared.refusal.Refusal.TheVariants.{NoMemor
 -- the inputs in the order in which they are read, and what is expected of what they hold
 pub record Task : Type 0 where
   pub inputs : List Input
-  pub expected : List Content → Expected
+  pub expected : List InputContent → Expected
 
 -- a count of the folder or of the output rose
 abbrev pub HasRisen : CallEffect → Type 0
@@ -25,7 +25,7 @@ pub record HasBadInput (inputs : List Input) (c : CallEffect) (name : List ℕ) 
   pub after : List Input
   pub among : inputs ≡ before ++ (input ∷ after)
   pub name_is : name ≡ name_of input
-  pub fits : Fits input flaw
+  pub fits : FlawFits input flaw
   pub first : IsSome c.folder.before.files → IsFirstCause c.folder.before.files inputs (FlawedInput name flaw)
   pub untouched : IsWithoutEffect c
 

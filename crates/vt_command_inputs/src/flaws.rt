@@ -1,4 +1,4 @@
-//! What may be wrong with an input, and how it is told.
+//! What may be wrong with an input, and how it is printed.
 
 ghost use Rattle.std.specs.Prelude.{◌≡◌};
 ghost use Rattle.vt_text.specs.Places.{place_text};

@@ -6,22 +6,11 @@ ghost use Rattle.vt_outside.specs.Counts.{Rose};
 ghost use Rattle.vt_pages.specs.Limits.{most_read_side, most_tiled_side};
 ghost use Rattle.vt_ppm.specs.Flaws.{AreImageSides};
 ghost use Rattle.vt_ppm.specs.Reads.{AreImagePlaces};
-ghost use Rattle.vt_ppm.specs.Strips.{IsTextureHeader, IsTextureIfTold};
-ghost use Rattle.vt_tiles.specs.StoreViews.{IsStoreIfTold};
+ghost use Rattle.vt_ppm.specs.Strips.{IsTextureHeader, IsTextureIfKnown};
+ghost use Rattle.vt_tiles.specs.StoreViews.{IsStoreIfKnown};
 ghost use Rattle.vt_outside.specs.Effects.{folder_effect};
-ghost use Rattle.vt_command_inputs.specs.Inputs.{
-  Input,
-  PathInput,
-  TextureInput,
-  TiledTexture,
-  StoreInput,
-  JournalInput,
-  PathContent,
-  TextureContent,
-  StoreContent,
-  TextContent,
-};
-ghost use Rattle.vt_command_inputs.specs.Inputs.{name_of, AsksWhole, AsksHeader, AsksStrips, IsTextureUpTo, header_places};
+ghost use Rattle.vt_command_inputs.specs.Inputs.{Input, PathInput, TextureInput, TiledTexture, StoreInput, JournalInput, PathContent, TextureContent, StoreContent, TextContent};
+ghost use Rattle.vt_command_inputs.specs.Inputs.{name_of, AsksWhole, MayAskHeader, AsksStrips, IsTextureUpTo, header_places};
 ghost use Rattle.vt_command_inputs.specs.Reads.{file_state, visit, Opened, Refused, Visits, IsCausedIn, FindsIn, Finds, Reads, OpensStore, OpensTexture};
 ghost use Rattle.vt_command_inputs.specs.Reads.{LooksOver, MayLookOver, SeesTexture};
 
@@ -185,7 +174,7 @@ fn reader_in<F: File>(
     most: u32,
 ) -> Result<StripReader<F>, (F, Refusal<'_>)>
     requires { most ≤ most_tiled_side }
-    ensures is { IfOk result (λ reader. IsTextureIfTold (F.bytes file) reader.header) }
+    ensures is { IfOk result (λ reader. IsTextureIfKnown (F.bytes file) reader.header) }
     ensures limits { IfOk result (λ reader. IsTextureHeader reader.header) }
     ensures sides { IfOk result (λ reader. AreImageSides most reader.header.width reader.header.height) }
     ensures checked { IfOk result (λ reader. reader.checked ≡ true) }
@@ -206,7 +195,7 @@ fn reader_in<F: File>(
 
 // Looks the samples of a texture over.
 fn look_over<'a, F: File>(name: &'a str, reader: &mut StripReader<F>) -> Result<(), Refusal<'a>>
-    ensures is { OnOk result (IsTextureIfTold (F.bytes reader.old.file) reader.old.header) }
+    ensures is { OnOk result (IsTextureIfKnown (F.bytes reader.old.file) reader.old.header) }
     ensures checked { OnOk result (reader.new.checked ≡ true) }
     ensures seen { OnOk result (LooksOver reader.old.header (Ok tt) (F.asked reader.old.file) (F.asked reader.new.file)) }
     ensures tried { MayLookOver reader.old.header (F.asked reader.old.file) (F.asked reader.new.file) }
@@ -272,12 +261,12 @@ pub fn open_store<'a, D: Folder>(
 
 // The store in an open file. A refusal hands the file back.
 fn store_in<F: File>(name: &str, file: F) -> Result<Store<F>, (F, Refusal<'_>)>
-    ensures is { IfOk result (λ store. IsStoreIfTold (F.bytes file) store.shape store.depth) }
+    ensures is { IfOk result (λ store. IsStoreIfKnown (F.bytes file) store.shape store.depth) }
     ensures depth { IfOk result (λ store. IsDepth store.depth) }
     ensures caused { IfErr result (λ e. IsCausedIn (StoreInput name.now) (visit F.File file e.0) e.1) }
-    ensures visits { IfOk result (λ store. Visits AsksHeader (visit F.File file store.file)) }
+    ensures visits { IfOk result (λ store. Visits MayAskHeader (visit F.File file store.file)) }
     ensures read { IfOk result (λ store. F.asked store.file ≡ option_map (λ old. old ++ header_places) (F.asked file)) }
-    ensures tried { IfErr result (λ e. Visits AsksHeader (visit F.File file e.0)) }
+    ensures tried { IfErr result (λ e. Visits MayAskHeader (visit F.File file e.0)) }
 {
     match Store::open(file) {
         Ok(store) => Ok(store),

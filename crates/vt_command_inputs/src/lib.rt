@@ -13,4 +13,4 @@ pub use input::{
     read_texture,
 };
 pub use output::{add, outside_error, put_end, put_store_line};
-pub use refusal::{Refusal, refusal_of, status_of, tell_end};
+pub use refusal::{Refusal, print_end, refusal_of, status_of};

@@ -4,7 +4,7 @@ ghost use Rattle.std.specs.Prelude.{◌≡◌, ◌↔◌, ◌+◌, ◌≤◌, �
 ghost use Rattle.vt_ppm.specs.Depths.{IsDepth};
 ghost use Rattle.vt_command_words.specs.TextNumbers.{number_spelling};
 ghost use Rattle.vt_outside.specs.Effects.{sink_effect};
-ghost use Rattle.vt_outside.specs.Expectations.{Puts};
+ghost use Rattle.vt_outside.specs.Expectations.{PutsText};
 ghost use Rattle.vt_command_inputs.specs.Lines.{end_line, store_line};
 
 use vt_outside::{OutsideError, Sink};
@@ -24,7 +24,7 @@ pub fn outside_error(error: StoreError) -> OutsideError
 
 /// Puts the line that ends a command which wrote pictures, in pieces: how many it wrote.
 pub fn put_end<O: Sink>(out: &mut O, pictures: u32) -> Result<(), OutsideError>
-    ensures { Puts (end_line pictures) (sink_effect O.Sink out.old out.new) result }
+    ensures { PutsText (end_line pictures) (sink_effect O.Sink out.old out.new) result }
 {
     let mut number = Line::new();
     number.number(pictures as u64);
@@ -45,7 +45,7 @@ pub fn put_store_line<O: Sink>(
     depth: u32,
 ) -> Result<(), OutsideError>
     requires { IsDepth depth }
-    ensures { Puts (store_line geometry.now depth) (sink_effect O.Sink out.old out.new) result }
+    ensures { PutsText (store_line geometry.now depth) (sink_effect O.Sink out.old out.new) result }
 {
     let line = line_of_store(geometry, depth);
     out.put(line.bytes())

@@ -4,12 +4,12 @@ ghost use Rattle.std.specs.Prelude.{◌≡◌};
 ghost use Rattle.vt_outside.specs.declared.answers.OutsideError.TheVariants as outside_error;
 ghost use Rattle.vt_outside.specs.Effects.{sink_effect};
 ghost use Rattle.vt_command_inputs.specs.Lines.{frames_line, unfit_line};
-ghost use Rattle.vt_command_inputs.specs.Refusals.{IsRefusalOf, cause_of, refusal_status, refusal_of_words, status_of, refusal_line, Told, EndTold};
+ghost use Rattle.vt_command_inputs.specs.Refusals.{IsRefusalOf, cause_of, refusal_status, refusal_of_words, status_of, refusal_line, Printed, EndPrinted};
 
 use crate::flaws::Flaw;
 use vt_command_words::WordsError;
 use vt_outside::{NoMemory, OutsideError, Sink};
-use vt_text::{Place, tell_bad_input, tell_place};
+use vt_text::{Place, print_bad_input, print_place};
 
 /// Why a command was refused.
 #[derive(Clone, Copy)]
@@ -92,27 +92,27 @@ impl Refusal<'_> {
 
     /// Puts the line of the refusal, of words that are none of a command's the line of usage; the first put that is
     /// refused ends it. It takes no memory of its own.
-    pub fn tell<E: Sink>(&self, usage: &[u8], err: &mut E)
-        ensures { Told (refusal_line usage.now self.now) (sink_effect E.Sink err.old err.new) }
+    pub fn print<E: Sink>(&self, usage: &[u8], err: &mut E)
+        ensures { Printed (refusal_line usage.now self.now) (sink_effect E.Sink err.old err.new) }
     {
         match self {
-            Refusal::NoMemory => tell_words(err, b"vtex: out of memory\n"),
-            Refusal::Usage => tell_words(err, usage),
-            Refusal::Fault => tell_words(err, b"vtex: fault on files or output\n"),
-            Refusal::Flawed(name, flaw) => tell_bad_input(err, name, &flaw.place()),
-            Refusal::TooFewFrames { frames, needed } => tell_frames(err, *frames, *needed),
+            Refusal::NoMemory => print_words(err, b"vtex: out of memory\n"),
+            Refusal::Usage => print_words(err, usage),
+            Refusal::Fault => print_words(err, b"vtex: fault on files or output\n"),
+            Refusal::Flawed(name, flaw) => print_bad_input(err, name, &flaw.place()),
+            Refusal::TooFewFrames { frames, needed } => print_frames(err, *frames, *needed),
             Refusal::DoesNotFit {
                 picture,
                 wanted,
                 room,
-            } => tell_unfit(err, *picture, *wanted, *room),
+            } => print_unfit(err, *picture, *wanted, *room),
         }
     }
 }
 
 // Puts the line of too few frames.
-fn tell_frames<E: Sink>(err: &mut E, frames: u32, needed: u32)
-    ensures { Told (frames_line frames needed) (sink_effect E.Sink err.old err.new) }
+fn print_frames<E: Sink>(err: &mut E, frames: u32, needed: u32)
+    ensures { Printed (frames_line frames needed) (sink_effect E.Sink err.old err.new) }
 {
     let place = Place::two_numbers(
         b"",
@@ -120,12 +120,12 @@ fn tell_frames<E: Sink>(err: &mut E, frames: u32, needed: u32)
         b" frames, pinned pages need ",
         needed as u64,
     );
-    tell_place(err, &place);
+    print_place(err, &place);
 }
 
 // Puts the line of a picture that does not fit.
-fn tell_unfit<E: Sink>(err: &mut E, picture: u32, wanted: u32, room: u32)
-    ensures { Told (unfit_line picture wanted room) (sink_effect E.Sink err.old err.new) }
+fn print_unfit<E: Sink>(err: &mut E, picture: u32, wanted: u32, room: u32)
+    ensures { Printed (unfit_line picture wanted room) (sink_effect E.Sink err.old err.new) }
 {
     let place = Place::three_numbers(
         b"picture ",
@@ -135,12 +135,12 @@ fn tell_unfit<E: Sink>(err: &mut E, picture: u32, wanted: u32, room: u32)
         b" pages, room for ",
         room as u64,
     );
-    tell_place(err, &place);
+    print_place(err, &place);
 }
 
 // Puts a line that has no name and no number.
-fn tell_words<E: Sink>(err: &mut E, line: &[u8])
-    ensures { Told line.now (sink_effect E.Sink err.old err.new) }
+fn print_words<E: Sink>(err: &mut E, line: &[u8])
+    ensures { Printed line.now (sink_effect E.Sink err.old err.new) }
 {
     let _ = err.put(line);
 }
@@ -156,11 +156,11 @@ pub fn status_of(end: &Result<(), Refusal<'_>>) -> u8
 }
 
 /// Prints why a command was refused, by the line of usage; of one that is done it prints nothing.
-pub fn tell_end<E: Sink>(end: &Result<(), Refusal<'_>>, usage: &[u8], err: &mut E)
-    ensures { EndTold usage.now end.now (sink_effect E.Sink err.old err.new) }
+pub fn print_end<E: Sink>(end: &Result<(), Refusal<'_>>, usage: &[u8], err: &mut E)
+    ensures { EndPrinted usage.now end.now (sink_effect E.Sink err.old err.new) }
 {
     match end {
         Ok(()) => {}
-        Err(refusal) => refusal.tell(usage, err),
+        Err(refusal) => refusal.print(usage, err),
     }
 }

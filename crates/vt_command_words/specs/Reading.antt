@@ -13,7 +13,7 @@ asked_by kind_of rules_of values_for name words =
 
 -- what reading words that ask for this, or for nothing, may answer, where commands are shown without where their words lie in memory,
 -- and their numbers are lawful
-pub record IsAnswer {C T : Type 0} (shown : C → T) (fits : C → Type 0) (asked : Option T) (result : Result C WordsError) : Type 0 where
+pub record IsReadAnswer {C T : Type 0} (shown : C → T) (fits : C → Type 0) (asked : Option T) (result : Result C WordsError) : Type 0 where
   pub read : IfOk result (λ command. asked ≡ Some (shown command))
   pub usage : IsErrOf result Usage → IsNone asked
   pub lawful : IfOk result fits

@@ -3,7 +3,7 @@
 ghost use Rattle.std.specs.Prelude.{◌≡◌, true, IfSome, map, option_map};
 ghost use Rattle.clap.specs.Words.{rows_of, found_of};
 ghost use Rattle.vt_command_words.specs.Arguments.{rule_for, are_simple, texts};
-ghost use Rattle.vt_command_words.specs.Reading.{IsAnswer};
+ghost use Rattle.vt_command_words.specs.Reading.{IsReadAnswer};
 ghost use Rattle.vt_command_words.specs.Commands.{walking_kind_of, rules_of, values_for, walking_text, shown_walking, IsLawfulWalking};
 
 use crate::arguments::{Argument, WordsError, find};
@@ -43,7 +43,7 @@ pub fn read_walking_command<'a>(
     name: &'a str,
     words: &'a [String],
 ) -> Result<WalkingCommand<'a>, WordsError>
-    ensures { IsAnswer shown_walking IsLawfulWalking (walking_text name.entry.now (texts words.entry.now)) result }
+    ensures { IsReadAnswer shown_walking IsLawfulWalking (walking_text name.entry.now (texts words.entry.now)) result }
 {
     let Some(kind) = walking_kind_of(name) else {
         return Err(WordsError::Usage);

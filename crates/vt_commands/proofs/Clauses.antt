@@ -3,14 +3,14 @@ use Rattle.std.proofs.Common.{◌≡◌, ◌≢◌, ◌⊎◌, ℕ, ◌≤◌, L
 use Rattle.std.specs.Prelude.{Result, IsNone}
 use Rattle.std.specs.Option.{is_some}
 use Rattle.std.proofs.lemmas.Bool.{false≢true}
-use Rattle.vt_command_inputs.specs.Effects.{CallEffect, SinkState, FolderState, SinkEffect, IsWithoutEffect, IsIdle}
-use Rattle.vt_command_inputs.specs.Inputs.{Input, Content}
+use Rattle.vt_command_inputs.specs.Effects.{CallEffect, SinkState, FolderState, SinkEffect, IsWithoutEffect, HasNoEffect}
+use Rattle.vt_command_inputs.specs.Inputs.{Input, InputContent}
 use Rattle.vt_command_inputs.specs.Causes.{Cause, MissingName, FlawedInput, cause_status, IsFirstCause, AreHeld, AreAccepted}
 use Rattle.vt_command_inputs.specs.Tasks.{HasBadInput}
 use Rattle.vt_command_inputs.specs.CommandSpecs.{CommandSpec, Conflict, FlawedBeside, ManyTexels, FewFrames, LargePicture, conflict_status, IsInConflict, HasFaultBy, HasBadInputBy, EndsBy}
 use Rattle.vt_command_inputs.specs.Lines.{memory_line, fault_line}
-use Rattle.vt_command_inputs.specs.Refusals.{status_of, Told, EndTold, refusal_of_words}
-use Rattle.vt_commands.specs.Runs.{Run, Asks, AsksNothing, RunDone, RunLeft, RunAsked, RunFault, RunBadInput, RunInConflict, RunCaused, RunStopped, RunComplete, IsRun}
+use Rattle.vt_command_inputs.specs.Refusals.{status_of, Printed, EndPrinted, refusal_of_words}
+use Rattle.vt_commands.specs.Runs.{Run, Asks, NamesNoCommand, RunDone, RunLeft, RunAsked, RunFault, RunBadInput, RunInConflict, RunCaused, RunStopped, RunComplete, IsRun}
 use Rattle.vt_commands.specs.Words.{CommandText, command_text}
 use Rattle.vt_command_words.specs.declared.arguments.WordsError.{WordsError}
 use Rattle.vt_command_words.specs.declared.arguments.WordsError.TheVariants as words_error
@@ -20,12 +20,12 @@ use Rattle.vt_commands.specs.commands.{spec_of, IsUnread, EndsCommand, EndsRun}
 use Rattle.vt_command_inputs.specs.declared.flaws.Flaw.{Flaw}
 use Rattle.vt_command_inputs.specs.declared.refusal.Refusal.{Refusal}
 use Rattle.vt_command_inputs.specs.declared.refusal.Refusal.TheVariants.{NoMemory, Usage, Fault, Flawed, TooFewFrames, DoesNotFit}
-use Rattle.vt_command_inputs.proofs.Excluded.{first_status, none_first, held_accepted, first_told, accepted_told}
+use Rattle.vt_command_inputs.proofs.Excluded.{first_status, none_first, held_accepted, first_known, accepted_known}
 use Rattle.vt_command_inputs.proofs.OneContent.{same_held}
 use Rattle.vt_walk_commands.proofs.Sound.{AreSound}
 use Rattle.vt_commands.proofs.Sound.{sound}
 
-asks_none : (words : List (List ℕ)) (p : CommandText) → Asks words p → AsksNothing words → ⊥
+asks_none : (words : List (List ℕ)) (p : CommandText) → Asks words p → NamesNoCommand words → ⊥
 asks_none words p asks none = false≢true (sym none ∙ ap is_some asks)
 
 same_command : (words : List (List ℕ)) (p q : CommandText) → Asks words p → Asks words q → p ≡ q
@@ -45,7 +45,7 @@ done_of run T (Err (Flawed name flaw)) h s = absurd (omega (arith, s))
 done_of run T (Err (TooFewFrames frames needed)) h s = absurd (omega (arith, s))
 done_of run T (Err (DoesNotFit picture wanted room)) h s = absurd (omega (arith, s))
 
-idle_untouched : (c : CallEffect) → IsIdle c → IsWithoutEffect c
+idle_untouched : (c : CallEffect) → HasNoEffect c → IsWithoutEffect c
 idle_untouched c idle = record { files = ap (λ (s : FolderState). s.files) idle.folder; held = ap (λ (s : SinkState). s.held) idle.out }
 
 left_of : (run : Run) (T : Type 0) (r : Result T Refusal) → EndsRun run.machines run.words run.call_effect r → status_of r ≢ 0 → RunLeft run
@@ -77,25 +77,25 @@ asked_of run T (Ok t) h = λ p asks. (ends_as run.machines T run.words run.call_
 asked_of run T (Err refusal) (inl h) = λ p asks. (sound run.machines p).idle run.call_effect h.idle
 asked_of run T (Err refusal) (inr h) = λ p asks. (ends_as run.machines T run.words run.call_effect (Err refusal) p asks h).0
 
-idle_of : (m : Machines) (T : Type 0) (words : List (List ℕ)) (c : CallEffect) (r : Result T Refusal) → EndsRun m words c r → AsksNothing words → IsIdle c
+idle_of : (m : Machines) (T : Type 0) (words : List (List ℕ)) (c : CallEffect) (r : Result T Refusal) → EndsRun m words c r → NamesNoCommand words → HasNoEffect c
 idle_of m T words c (Ok t) h none = absurd (asks_none words h.command h.is none)
 idle_of m T words c (Err refusal) (inl h) none = h.idle
 idle_of m T words c (Err refusal) (inr h) none = absurd (asks_none words h.command h.is none)
 
-usage_of : (run : Run) (T : Type 0) (r : Result T Refusal) → EndsRun run.machines run.words run.call_effect r → EndTold usage_line r run.err
-    → status_of r ≡ 2 → AsksNothing run.words ⊎ RunInConflict run 2
-usage_of run T (Ok t) h told s = absurd (omega (arith, s))
-usage_of run T (Err NoMemory) h told s = absurd (omega (arith, s))
-usage_of run T (Err Usage) (inl h) told s = inl h.unread
-usage_of run T (Err Usage) (inr h) told s =
-    inr (record { command = h.command; asks = h.is; conflict = ManyTexels; comes = refl; met = h.ends.1.1; told = told })
-usage_of run T (Err Fault) h told s = absurd (omega (arith, s))
-usage_of run T (Err (Flawed name flaw)) h told s = absurd (omega (arith, s))
-usage_of run T (Err (TooFewFrames frames needed)) h told s = absurd (omega (arith, s))
-usage_of run T (Err (DoesNotFit picture wanted room)) h told s = absurd (omega (arith, s))
+usage_of : (run : Run) (T : Type 0) (r : Result T Refusal) → EndsRun run.machines run.words run.call_effect r → EndPrinted usage_line r run.err
+    → status_of r ≡ 2 → NamesNoCommand run.words ⊎ RunInConflict run 2
+usage_of run T (Ok t) h printed s = absurd (omega (arith, s))
+usage_of run T (Err NoMemory) h printed s = absurd (omega (arith, s))
+usage_of run T (Err Usage) (inl h) printed s = inl h.unread
+usage_of run T (Err Usage) (inr h) printed s =
+    inr (record { command = h.command; asks = h.is; conflict = ManyTexels; comes = refl; met = h.ends.1.1; printed = printed })
+usage_of run T (Err Fault) h printed s = absurd (omega (arith, s))
+usage_of run T (Err (Flawed name flaw)) h printed s = absurd (omega (arith, s))
+usage_of run T (Err (TooFewFrames frames needed)) h printed s = absurd (omega (arith, s))
+usage_of run T (Err (DoesNotFit picture wanted room)) h printed s = absurd (omega (arith, s))
 
 no_command_of : (m : Machines) (T : Type 0) (words : List (List ℕ)) (c : CallEffect) (r : Result T Refusal) → EndsRun m words c r
-    → AsksNothing words → (status_of r ≡ 2) ⊎ (status_of r ≡ 1)
+    → NamesNoCommand words → (status_of r ≡ 2) ⊎ (status_of r ≡ 1)
 no_command_of m T words c (Ok t) h none = absurd (asks_none words h.command h.is none)
 no_command_of m T words c (Err NoMemory) h none = inr refl
 no_command_of m T words c (Err Usage) h none = inl refl
@@ -121,12 +121,12 @@ in_conflict_first : (spec : CommandSpec) (c : CallEffect) (cause : Cause) (confl
     → IsInConflict spec c conflict → ⊥
 in_conflict_first spec c cause conflict first h =
     let files = c.folder.before.files in
-    none_first files spec.inputs cause (held_accepted files spec.inputs h.contents (h.held (first_told files spec.inputs cause first))) first
+    none_first files spec.inputs cause (held_accepted files spec.inputs h.contents (h.held (first_known files spec.inputs cause first))) first
 
 bad_status : (spec : CommandSpec) (c : CallEffect) (name : List ℕ) (flaw : Flaw) (cause : Cause) → IsFirstCause c.folder.before.files spec.inputs cause
     → HasBadInputBy spec c name flaw → 4 ≡ cause_status cause
 bad_status spec c name flaw cause first (inl h) =
-    first_status c.folder.before.files spec.inputs (FlawedInput name flaw) cause (h.first (first_told c.folder.before.files spec.inputs cause first)) first
+    first_status c.folder.before.files spec.inputs (FlawedInput name flaw) cause (h.first (first_known c.folder.before.files spec.inputs cause first)) first
 bad_status spec c name flaw cause first (inr h) = absurd (in_conflict_first spec c cause (FlawedBeside name flaw) first h)
 
 fault_status : (spec : CommandSpec) (c : CallEffect) (cause : Cause) → (spec.failed c → ⊥) → IsFirstCause c.folder.before.files spec.inputs cause
@@ -139,7 +139,7 @@ caused_as : (T : Type 0) (c : CallEffect) (r : Result T Refusal) (spec : Command
     → IsFirstCause c.folder.before.files spec.inputs cause → (status_of r ≡ cause_status cause) ⊎ (status_of r ≡ 1)
 caused_as T c (Ok t) spec cause h none first =
     let files = c.folder.before.files in
-    absurd (none_first files spec.inputs cause (held_accepted files spec.inputs h.1.contents (h.1.held (first_told files spec.inputs cause first))) first)
+    absurd (none_first files spec.inputs cause (held_accepted files spec.inputs h.1.contents (h.1.held (first_known files spec.inputs cause first))) first)
 caused_as T c (Err NoMemory) spec cause h none first = inr refl
 caused_as T c (Err Usage) spec cause h none first = absurd (in_conflict_first spec c cause ManyTexels first h.1.1)
 caused_as T c (Err Fault) spec cause h none first = inl (fault_status spec c cause none first h.1.1)
@@ -172,32 +172,32 @@ caused_of run T r h = λ p cause asks none first. elim (came_to run.machines T r
 ]
 
 -- what stands in a command's way is what stands in the way of what the folder holds
-in_conflict_status : (spec : CommandSpec) (c : CallEffect) (contents : List Content) (a b : Conflict) → AreSound spec
+in_conflict_status : (spec : CommandSpec) (c : CallEffect) (contents : List InputContent) (a b : Conflict) → AreSound spec
     → AreHeld c.folder.before.files spec.inputs contents → spec.conflicts contents a → IsInConflict spec c b → conflict_status b ≡ conflict_status a
 in_conflict_status spec c contents a b laws held conflicts h =
     let same = same_held c.folder.before.files spec.inputs contents h.contents held h.count h.held in
-    laws.one h.contents b a h.conflicts (subst (λ (cs : List Content). spec.conflicts cs a) same conflicts)
+    laws.one h.contents b a h.conflicts (subst (λ (cs : List InputContent). spec.conflicts cs a) same conflicts)
 
-fault_held : (spec : CommandSpec) (c : CallEffect) (contents : List Content) → (spec.failed c → ⊥) → AreHeld c.folder.before.files spec.inputs contents
+fault_held : (spec : CommandSpec) (c : CallEffect) (contents : List InputContent) → (spec.failed c → ⊥) → AreHeld c.folder.before.files spec.inputs contents
     → HasFaultBy spec c → ⊥
 fault_held spec c contents none held (inl failed) = none failed
 fault_held spec c contents none held (inr missing) =
     none_first c.folder.before.files spec.inputs (MissingName missing.0) (held_accepted c.folder.before.files spec.inputs contents held) missing.1
 
-bad_held : (inputs : List Input) (c : CallEffect) (contents : List Content) (name : List ℕ) (flaw : Flaw) → AreHeld c.folder.before.files inputs contents
+bad_held : (inputs : List Input) (c : CallEffect) (contents : List InputContent) (name : List ℕ) (flaw : Flaw) → AreHeld c.folder.before.files inputs contents
     → HasBadInput inputs c name flaw → ⊥
 bad_held inputs c contents name flaw held bad =
     let files = c.folder.before.files in
     let accepted = held_accepted files inputs contents held in
-    let told = accepted_told files bad.before bad.input bad.after (subst (λ (all : List Input). AreAccepted files all) bad.among accepted) in
-    none_first files inputs (FlawedInput name flaw) accepted (bad.first told)
+    let known = accepted_known files bad.before bad.input bad.after (subst (λ (all : List Input). AreAccepted files all) bad.among accepted) in
+    none_first files inputs (FlawedInput name flaw) accepted (bad.first known)
 
-stopped_as : (T : Type 0) (c : CallEffect) (r : Result T Refusal) (spec : CommandSpec) (contents : List Content) (a : Conflict) → AreSound spec → EndsBy spec c r
+stopped_as : (T : Type 0) (c : CallEffect) (r : Result T Refusal) (spec : CommandSpec) (contents : List InputContent) (a : Conflict) → AreSound spec → EndsBy spec c r
     → (spec.failed c → ⊥) → AreHeld c.folder.before.files spec.inputs contents → spec.conflicts contents a
     → (status_of r ≡ conflict_status a) ⊎ (status_of r ≡ 1)
 stopped_as T c (Ok t) spec contents a laws h none held conflicts =
     let same = same_held c.folder.before.files spec.inputs contents h.1.contents held h.1.count h.1.held in
-    absurd (h.1.free a (subst (λ (cs : List Content). spec.conflicts cs a) same conflicts))
+    absurd (h.1.free a (subst (λ (cs : List InputContent). spec.conflicts cs a) same conflicts))
 stopped_as T c (Err NoMemory) spec contents a laws h none held conflicts = inr refl
 stopped_as T c (Err Usage) spec contents a laws h none held conflicts = inl (in_conflict_status spec c contents a ManyTexels laws held conflicts h.1.1)
 stopped_as T c (Err Fault) spec contents a laws h none held conflicts = absurd (fault_held spec c contents none held h.1.1)
@@ -218,13 +218,13 @@ stopped_of run T r h = λ p contents conflict asks none held conflicts. elim (ca
 ]
 
 -- nothing stands in the way of what the folder holds, and so in the command's way
-none_met : (spec : CommandSpec) (c : CallEffect) (contents : List Content) (b : Conflict) → AreHeld c.folder.before.files spec.inputs contents
+none_met : (spec : CommandSpec) (c : CallEffect) (contents : List InputContent) (b : Conflict) → AreHeld c.folder.before.files spec.inputs contents
     → ((a : Conflict) → spec.conflicts contents a → ⊥) → IsInConflict spec c b → ⊥
 none_met spec c contents b held free h =
     let same = same_held c.folder.before.files spec.inputs contents h.contents held h.count h.held in
-    free b (subst (λ (cs : List Content). spec.conflicts cs b) (sym same) h.conflicts)
+    free b (subst (λ (cs : List InputContent). spec.conflicts cs b) (sym same) h.conflicts)
 
-complete_as : (T : Type 0) (c : CallEffect) (r : Result T Refusal) (spec : CommandSpec) (contents : List Content) → EndsBy spec c r
+complete_as : (T : Type 0) (c : CallEffect) (r : Result T Refusal) (spec : CommandSpec) (contents : List InputContent) → EndsBy spec c r
     → (spec.failed c → ⊥) → AreHeld c.folder.before.files spec.inputs contents → ((a : Conflict) → spec.conflicts contents a → ⊥)
     → (status_of r ≡ 0) ⊎ (status_of r ≡ 1)
 complete_as T c (Ok t) spec contents h none held free = inl refl
@@ -252,7 +252,7 @@ unread_by asked words_error.Usage none = none refl
 unread_by asked words_error.NoMemory none = tt
 
 -- a run whose words were refused
-pub runs_unread : (m : Machines) (T : Type 0) (words : List (List ℕ)) (c : CallEffect) (e : WordsError) → IsIdle c
+pub runs_unread : (m : Machines) (T : Type 0) (words : List (List ℕ)) (c : CallEffect) (e : WordsError) → HasNoEffect c
     → (e ≡ words_error.Usage → IsNone (command_text words)) → EndsRun {T = T} m words c (Err (refusal_of_words e))
 runs_unread m T words c e idle none = inl (record { unread = unread_by (command_text words) e none; idle = idle })
 
@@ -272,87 +272,87 @@ small_of T (Err (TooFewFrames frames needed)) = omega arith
 small_of T (Err (DoesNotFit picture wanted room)) = omega arith
 
 bad_input_of : (run : Run) (T : Type 0) (r : Result T Refusal) → EndsRun run.machines run.words run.call_effect r
-    → EndTold usage_line r run.err → status_of r ≡ 4
+    → EndPrinted usage_line r run.err → status_of r ≡ 4
     → RunBadInput run
-bad_input_of run T (Ok t) h told s = absurd (omega (arith, s))
-bad_input_of run T (Err NoMemory) h told s = absurd (omega (arith, s))
-bad_input_of run T (Err Usage) h told s = absurd (omega (arith, s))
-bad_input_of run T (Err Fault) h told s = absurd (omega (arith, s))
-bad_input_of run T (Err (TooFewFrames frames needed)) h told s = absurd (omega (arith, s))
-bad_input_of run T (Err (DoesNotFit picture wanted room)) h told s = absurd (omega (arith, s))
-bad_input_of run T (Err (Flawed name flaw)) (inl h) told s = absurd h.unread
+bad_input_of run T (Ok t) h printed s = absurd (omega (arith, s))
+bad_input_of run T (Err NoMemory) h printed s = absurd (omega (arith, s))
+bad_input_of run T (Err Usage) h printed s = absurd (omega (arith, s))
+bad_input_of run T (Err Fault) h printed s = absurd (omega (arith, s))
+bad_input_of run T (Err (TooFewFrames frames needed)) h printed s = absurd (omega (arith, s))
+bad_input_of run T (Err (DoesNotFit picture wanted room)) h printed s = absurd (omega (arith, s))
+bad_input_of run T (Err (Flawed name flaw)) (inl h) printed s = absurd h.unread
 bad_input_of run T (Err (Flawed name flaw))
-    (inr h) told s = record { command = h.command; asks = h.is; name = name.now; flaw = flaw; bad = h.ends.1.1; told = told }
+    (inr h) printed s = record { command = h.command; asks = h.is; name = name.now; flaw = flaw; bad = h.ends.1.1; printed = printed }
 
-silent_of : (T : Type 0) (r : Result T Refusal) (err : SinkEffect) → EndTold usage_line r err → status_of r ≡ 0 → err.after.held ≡ err.before.held
-silent_of T (Ok t) err told s = ap (λ (s : SinkState). s.held) told
-silent_of T (Err NoMemory) err told s = absurd (omega (arith, s))
-silent_of T (Err Usage) err told s = absurd (omega (arith, s))
-silent_of T (Err Fault) err told s = absurd (omega (arith, s))
-silent_of T (Err (Flawed name flaw)) err told s = absurd (omega (arith, s))
-silent_of T (Err (TooFewFrames frames needed)) err told s = absurd (omega (arith, s))
-silent_of T (Err (DoesNotFit picture wanted room)) err told s = absurd (omega (arith, s))
+silent_of : (T : Type 0) (r : Result T Refusal) (err : SinkEffect) → EndPrinted usage_line r err → status_of r ≡ 0 → err.after.held ≡ err.before.held
+silent_of T (Ok t) err printed s = ap (λ (s : SinkState). s.held) printed
+silent_of T (Err NoMemory) err printed s = absurd (omega (arith, s))
+silent_of T (Err Usage) err printed s = absurd (omega (arith, s))
+silent_of T (Err Fault) err printed s = absurd (omega (arith, s))
+silent_of T (Err (Flawed name flaw)) err printed s = absurd (omega (arith, s))
+silent_of T (Err (TooFewFrames frames needed)) err printed s = absurd (omega (arith, s))
+silent_of T (Err (DoesNotFit picture wanted room)) err printed s = absurd (omega (arith, s))
 
-memory_told_of : (T : Type 0) (r : Result T Refusal) (err : SinkEffect) → EndTold usage_line r err → status_of r ≡ 1 → Told memory_line err
-memory_told_of T (Ok t) err told s = absurd (omega (arith, s))
-memory_told_of T (Err NoMemory) err told s = told
-memory_told_of T (Err Usage) err told s = absurd (omega (arith, s))
-memory_told_of T (Err Fault) err told s = absurd (omega (arith, s))
-memory_told_of T (Err (Flawed name flaw)) err told s = absurd (omega (arith, s))
-memory_told_of T (Err (TooFewFrames frames needed)) err told s = absurd (omega (arith, s))
-memory_told_of T (Err (DoesNotFit picture wanted room)) err told s = absurd (omega (arith, s))
+memory_printed_of : (T : Type 0) (r : Result T Refusal) (err : SinkEffect) → EndPrinted usage_line r err → status_of r ≡ 1 → Printed memory_line err
+memory_printed_of T (Ok t) err printed s = absurd (omega (arith, s))
+memory_printed_of T (Err NoMemory) err printed s = printed
+memory_printed_of T (Err Usage) err printed s = absurd (omega (arith, s))
+memory_printed_of T (Err Fault) err printed s = absurd (omega (arith, s))
+memory_printed_of T (Err (Flawed name flaw)) err printed s = absurd (omega (arith, s))
+memory_printed_of T (Err (TooFewFrames frames needed)) err printed s = absurd (omega (arith, s))
+memory_printed_of T (Err (DoesNotFit picture wanted room)) err printed s = absurd (omega (arith, s))
 
-usage_told_of : (T : Type 0) (r : Result T Refusal) (err : SinkEffect) → EndTold usage_line r err → status_of r ≡ 2 → Told usage_line err
-usage_told_of T (Ok t) err told s = absurd (omega (arith, s))
-usage_told_of T (Err NoMemory) err told s = absurd (omega (arith, s))
-usage_told_of T (Err Usage) err told s = told
-usage_told_of T (Err Fault) err told s = absurd (omega (arith, s))
-usage_told_of T (Err (Flawed name flaw)) err told s = absurd (omega (arith, s))
-usage_told_of T (Err (TooFewFrames frames needed)) err told s = absurd (omega (arith, s))
-usage_told_of T (Err (DoesNotFit picture wanted room)) err told s = absurd (omega (arith, s))
+usage_printed_of : (T : Type 0) (r : Result T Refusal) (err : SinkEffect) → EndPrinted usage_line r err → status_of r ≡ 2 → Printed usage_line err
+usage_printed_of T (Ok t) err printed s = absurd (omega (arith, s))
+usage_printed_of T (Err NoMemory) err printed s = absurd (omega (arith, s))
+usage_printed_of T (Err Usage) err printed s = printed
+usage_printed_of T (Err Fault) err printed s = absurd (omega (arith, s))
+usage_printed_of T (Err (Flawed name flaw)) err printed s = absurd (omega (arith, s))
+usage_printed_of T (Err (TooFewFrames frames needed)) err printed s = absurd (omega (arith, s))
+usage_printed_of T (Err (DoesNotFit picture wanted room)) err printed s = absurd (omega (arith, s))
 
-fault_told_of : (T : Type 0) (r : Result T Refusal) (err : SinkEffect) → EndTold usage_line r err → status_of r ≡ 3 → Told fault_line err
-fault_told_of T (Ok t) err told s = absurd (omega (arith, s))
-fault_told_of T (Err NoMemory) err told s = absurd (omega (arith, s))
-fault_told_of T (Err Usage) err told s = absurd (omega (arith, s))
-fault_told_of T (Err Fault) err told s = told
-fault_told_of T (Err (Flawed name flaw)) err told s = absurd (omega (arith, s))
-fault_told_of T (Err (TooFewFrames frames needed)) err told s = absurd (omega (arith, s))
-fault_told_of T (Err (DoesNotFit picture wanted room)) err told s = absurd (omega (arith, s))
+fault_printed_of : (T : Type 0) (r : Result T Refusal) (err : SinkEffect) → EndPrinted usage_line r err → status_of r ≡ 3 → Printed fault_line err
+fault_printed_of T (Ok t) err printed s = absurd (omega (arith, s))
+fault_printed_of T (Err NoMemory) err printed s = absurd (omega (arith, s))
+fault_printed_of T (Err Usage) err printed s = absurd (omega (arith, s))
+fault_printed_of T (Err Fault) err printed s = printed
+fault_printed_of T (Err (Flawed name flaw)) err printed s = absurd (omega (arith, s))
+fault_printed_of T (Err (TooFewFrames frames needed)) err printed s = absurd (omega (arith, s))
+fault_printed_of T (Err (DoesNotFit picture wanted room)) err printed s = absurd (omega (arith, s))
 
-in_conflict_of : (run : Run) (T : Type 0) (r : Result T Refusal) → EndsRun run.machines run.words run.call_effect r → EndTold usage_line r run.err
+in_conflict_of : (run : Run) (T : Type 0) (r : Result T Refusal) → EndsRun run.machines run.words run.call_effect r → EndPrinted usage_line r run.err
     → status_of r ≡ 5 → RunInConflict run 5
-in_conflict_of run T (Ok t) h told s = absurd (omega (arith, s))
-in_conflict_of run T (Err NoMemory) h told s = absurd (omega (arith, s))
-in_conflict_of run T (Err Usage) h told s = absurd (omega (arith, s))
-in_conflict_of run T (Err Fault) h told s = absurd (omega (arith, s))
-in_conflict_of run T (Err (Flawed name flaw)) h told s = absurd (omega (arith, s))
-in_conflict_of run T (Err (TooFewFrames frames needed)) (inl h) told s = absurd h.unread
-in_conflict_of run T (Err (DoesNotFit picture wanted room)) (inl h) told s = absurd h.unread
-in_conflict_of run T (Err (TooFewFrames frames needed)) (inr h) told s =
-    record { command = h.command; asks = h.is; conflict = FewFrames frames needed; comes = refl; met = h.ends.1.1; told = told }
-in_conflict_of run T (Err (DoesNotFit picture wanted room)) (inr h) told s =
-    record { command = h.command; asks = h.is; conflict = LargePicture picture wanted room; comes = refl; met = h.ends.1.1; told = told }
+in_conflict_of run T (Ok t) h printed s = absurd (omega (arith, s))
+in_conflict_of run T (Err NoMemory) h printed s = absurd (omega (arith, s))
+in_conflict_of run T (Err Usage) h printed s = absurd (omega (arith, s))
+in_conflict_of run T (Err Fault) h printed s = absurd (omega (arith, s))
+in_conflict_of run T (Err (Flawed name flaw)) h printed s = absurd (omega (arith, s))
+in_conflict_of run T (Err (TooFewFrames frames needed)) (inl h) printed s = absurd h.unread
+in_conflict_of run T (Err (DoesNotFit picture wanted room)) (inl h) printed s = absurd h.unread
+in_conflict_of run T (Err (TooFewFrames frames needed)) (inr h) printed s =
+    record { command = h.command; asks = h.is; conflict = FewFrames frames needed; comes = refl; met = h.ends.1.1; printed = printed }
+in_conflict_of run T (Err (DoesNotFit picture wanted room)) (inr h) printed s =
+    record { command = h.command; asks = h.is; conflict = LargePicture picture wanted room; comes = refl; met = h.ends.1.1; printed = printed }
 
 -- all clauses
-pub is_run : (run : Run) (T : Type 0) (r : Result T Refusal) → EndsRun run.machines run.words run.call_effect r → EndTold usage_line r run.err → IsRun run (status_of r)
-is_run run T r h told = record {
+pub is_run : (run : Run) (T : Type 0) (r : Result T Refusal) → EndsRun run.machines run.words run.call_effect r → EndPrinted usage_line r run.err → IsRun run (status_of r)
+is_run run T r h printed = record {
   statuses = small_of T r;
   done = done_of run T r h;
   left = left_of run T r h;
   untouched = untouched_of run.machines T run.words run.call_effect r h;
   asked = asked_of run T r h;
   idle = idle_of run.machines T run.words run.call_effect r h;
-  usage = usage_of run T r h told;
+  usage = usage_of run T r h printed;
   no_command = no_command_of run.machines T run.words run.call_effect r h;
   fault = fault_of run T r h;
-  bad_input = bad_input_of run T r h told;
-  in_conflict = in_conflict_of run T r h told;
+  bad_input = bad_input_of run T r h printed;
+  in_conflict = in_conflict_of run T r h printed;
   caused = caused_of run T r h;
   stopped = stopped_of run T r h;
   complete = complete_of run T r h;
-  silent = silent_of T r run.err told;
-  memory_told = memory_told_of T r run.err told;
-  usage_told = usage_told_of T r run.err told;
-  fault_told = fault_told_of T r run.err told;
+  silent = silent_of T r run.err printed;
+  memory_printed = memory_printed_of T r run.err printed;
+  usage_printed = usage_printed_of T r run.err printed;
+  fault_printed = fault_printed_of T r run.err printed;
 }

@@ -1,6 +1,6 @@
 -- What is known of the specification of every command.
 use Rattle.std.proofs.Common.{[], List, refl, ap}
-use Rattle.vt_command_inputs.specs.Effects.{CallEffect, FolderState, IsIdle}
+use Rattle.vt_command_inputs.specs.Effects.{CallEffect, FolderState, HasNoEffect}
 use Rattle.vt_command_inputs.specs.Inputs.{Input}
 use Rattle.vt_command_inputs.specs.Causes.{AsksInOrder}
 use Rattle.vt_command_inputs.specs.Tasks.{Task}
@@ -13,7 +13,7 @@ use Rattle.vt_walk_commands.specs.Machines.{Machines, chosen}
 use Rattle.vt_commands.specs.commands.{spec_of}
 
 -- where nothing was asked, no input was
-asks_idle : (inputs : List Input) (c : CallEffect) → IsIdle c → AsksInOrder inputs c.folder
+asks_idle : (inputs : List Input) (c : CallEffect) → HasNoEffect c → AsksInOrder inputs c.folder
 asks_idle inputs c idle = record { some = []; rest = inputs; split = refl; asked = ap (λ (s : FolderState). s.asked) idle.folder }
 
 task_sound : (task : Task) → AreSound (task_spec task)

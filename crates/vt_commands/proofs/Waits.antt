@@ -20,7 +20,7 @@ use Rattle.vt_commands.specs.Words.{CommandText, OfStore, OfWalk, named_text}
 use Rattle.vt_walk_commands.specs.Machines.{Machines}
 use Rattle.vt_commands.specs.commands.{spec_of}
 use Rattle.vt_commands.specs.Waits.{is_waiting_name, may_wait, MayWait}
-use Rattle.vt_commands.specs.Runs.{Run, Asks, AsksNothing, RunBadInput, RunInConflict, RunCaused, RunStopped, RunComplete, IsRun}
+use Rattle.vt_commands.specs.Runs.{Run, Asks, NamesNoCommand, RunBadInput, RunInConflict, RunCaused, RunStopped, RunComplete, IsRun}
 
 -- the first word says whether words may wait
 pub first_waits : (words : List (String Global)) (name : String Global) (text : List ℕ) → 1 ≤ length words → name ≡ get_or words 0 name
@@ -129,11 +129,11 @@ in_conflict_by n run status never h = record {
   conflict = h.conflict;
   comes = h.comes;
   met = carried run.machines n (λ spec. IsInConflict spec run.call_effect h.conflict) h.command (is_at_once run.words never h.command h.asks) h.met;
-  told = h.told;
+  printed = h.printed;
 }
 
-usage_by : (n : Machines) (run : Run) → may_wait run.words ≡ false → AsksNothing run.words ⊎ RunInConflict run 2
-    → AsksNothing run.words ⊎ RunInConflict (by_others n run) 2
+usage_by : (n : Machines) (run : Run) → may_wait run.words ≡ false → NamesNoCommand run.words ⊎ RunInConflict run 2
+    → NamesNoCommand run.words ⊎ RunInConflict (by_others n run) 2
 usage_by n run never (inl none) = inl none
 usage_by n run never (inr h) = inr (in_conflict_by n run 2 never h)
 
@@ -144,7 +144,7 @@ bad_input_by n run never b = record {
   name = b.name;
   flaw = b.flaw;
   bad = carried run.machines n (λ spec. HasBadInputBy spec run.call_effect b.name b.flaw) b.command (is_at_once run.words never b.command b.asks) b.bad;
-  told = b.told;
+  printed = b.printed;
 }
 
 caused_by : (n : Machines) (run : Run) (status : ℕ) → may_wait run.words ≡ false → RunCaused run status → RunCaused (by_others n run) status
@@ -187,7 +187,7 @@ by_any n run status never r = record {
   stopped = stopped_by n run status never r.stopped;
   complete = complete_by n run status never r.complete;
   silent = r.silent;
-  memory_told = r.memory_told;
-  usage_told = r.usage_told;
-  fault_told = r.fault_told;
+  memory_printed = r.memory_printed;
+  usage_printed = r.usage_printed;
+  fault_printed = r.fault_printed;
 }

@@ -3,11 +3,11 @@ use Rattle.std.specs.Prelude.{◌≡◌, ◌≢◌, ◌≤◌, ◌⊎◌, ℕ, L
 use Rattle.vt_outside.specs.declared.outside.Folder.{Ghosts as FolderMeanings}
 use Rattle.vt_outside.specs.declared.outside.Sink.{Ghosts as SinkMeanings}
 use Rattle.vt_command_inputs.specs.Places.{bad_input_line}
-use Rattle.vt_command_inputs.specs.Effects.{CallEffect, SinkEffect, call_effect, sink_effect, IsWithoutEffect, IsIdle}
+use Rattle.vt_command_inputs.specs.Effects.{CallEffect, SinkEffect, call_effect, sink_effect, IsWithoutEffect, HasNoEffect}
 use Rattle.vt_command_inputs.specs.Flaws.{flaw_place}
-use Rattle.vt_command_inputs.specs.Inputs.{Content}
+use Rattle.vt_command_inputs.specs.Inputs.{InputContent}
 use Rattle.vt_command_inputs.specs.Lines.{memory_line, fault_line}
-use Rattle.vt_command_inputs.specs.Refusals.{Told}
+use Rattle.vt_command_inputs.specs.Refusals.{Printed}
 use Rattle.vt_command_inputs.specs.Causes.{Cause, cause_status, IsFirstCause, AreHeld}
 use Rattle.vt_command_inputs.specs.CommandSpecs.{Conflict, conflict_status, conflict_line, DoneBy, LeftBySpec, IsInConflict, HasFaultBy, HasBadInputBy}
 use Rattle.vt_commands.specs.Words.{CommandText, command_text}
@@ -33,8 +33,8 @@ abbrev pub Asks : List (List ℕ) → CommandText → Type 0
 Asks words command = command_text words ≡ Some command
 
 -- the words are those of no command
-abbrev pub AsksNothing : List (List ℕ) → Type 0
-AsksNothing words = IsNone (command_text words)
+abbrev pub NamesNoCommand : List (List ℕ) → Type 0
+NamesNoCommand words = IsNone (command_text words)
 
 -- the words' command is done
 abbrev pub RunDone : Run → Type 0
@@ -52,23 +52,23 @@ RunAsked run = (command : CommandText) → Asks run.words command → (spec_of r
 abbrev pub RunFault : Run → Type 0
 RunFault run = (command : CommandText) × Asks run.words command × HasFaultBy (spec_of run.machines command) run.call_effect
 
--- an input is refused for a flaw, and its line was told
+-- an input is refused for a flaw, and its line was printed
 pub record RunBadInput (run : Run) : Type 0 where
   pub command : CommandText
   pub asks : Asks run.words command
   pub name : List ℕ
   pub flaw : Flaw
   pub bad : HasBadInputBy (spec_of run.machines command) run.call_effect name flaw
-  pub told : Told (bad_input_line name (flaw_place flaw)) run.err
+  pub printed : Printed (bad_input_line name (flaw_place flaw)) run.err
 
--- something of this status stands in the way of what the inputs hold together, and its line was told
+-- something of this status stands in the way of what the inputs hold together, and its line was printed
 pub record RunInConflict (run : Run) (status : ℕ) : Type 0 where
   pub command : CommandText
   pub asks : Asks run.words command
   pub conflict : Conflict
   pub comes : conflict_status conflict ≡ status
   pub met : IsInConflict (spec_of run.machines command) run.call_effect conflict
-  pub told : Told (conflict_line usage_line conflict) run.err
+  pub printed : Printed (conflict_line usage_line conflict) run.err
 
 -- where no call failed, the status is that of the first cause among the inputs, but for want of memory
 abbrev pub RunCaused : Run → ℕ → Type 0
@@ -77,14 +77,14 @@ RunCaused run status = (command : CommandText) (cause : Cause) → Asks run.word
 
 -- where no call failed and the inputs are accepted, the status is that of what stands in the way of what they hold
 abbrev pub RunStopped : Run → ℕ → Type 0
-RunStopped run status = (command : CommandText) (contents : List Content) (conflict : Conflict) → Asks run.words command
+RunStopped run status = (command : CommandText) (contents : List InputContent) (conflict : Conflict) → Asks run.words command
     → ((spec_of run.machines command).failed run.call_effect → ⊥)
     → AreHeld run.call_effect.folder.before.files (spec_of run.machines command).inputs contents
     → (spec_of run.machines command).conflicts contents conflict → (status ≡ conflict_status conflict) ⊎ (status ≡ 1)
 
 -- and where nothing does, it is 0
 abbrev pub RunComplete : Run → ℕ → Type 0
-RunComplete run status = (command : CommandText) (contents : List Content) → Asks run.words command
+RunComplete run status = (command : CommandText) (contents : List InputContent) → Asks run.words command
     → ((spec_of run.machines command).failed run.call_effect → ⊥)
     → AreHeld run.call_effect.folder.before.files (spec_of run.machines command).inputs contents
     → ((conflict : Conflict) → (spec_of run.machines command).conflicts contents conflict → ⊥) → (status ≡ 0) ⊎ (status ≡ 1)
@@ -99,10 +99,10 @@ pub record IsRun (run : Run) (status : ℕ) : Type 0 where
   pub untouched : (status ≡ 2) ⊎ (status ≡ 4) → IsWithoutEffect run.call_effect
   -- nothing but the command's inputs is read, and of words that are none of a command's the folder is not asked at all
   pub asked : RunAsked run
-  pub idle : AsksNothing run.words → IsIdle run.call_effect
+  pub idle : NamesNoCommand run.words → HasNoEffect run.call_effect
   -- the causes of the refusals: the first among the inputs decides
-  pub usage : status ≡ 2 → AsksNothing run.words ⊎ RunInConflict run 2
-  pub no_command : AsksNothing run.words → (status ≡ 2) ⊎ (status ≡ 1)
+  pub usage : status ≡ 2 → NamesNoCommand run.words ⊎ RunInConflict run 2
+  pub no_command : NamesNoCommand run.words → (status ≡ 2) ⊎ (status ≡ 1)
   pub fault : status ≡ 3 → RunFault run
   pub bad_input : status ≡ 4 → RunBadInput run
   pub in_conflict : status ≡ 5 → RunInConflict run 5
@@ -112,6 +112,6 @@ pub record IsRun (run : Run) (status : ℕ) : Type 0 where
   pub complete : RunComplete run status
   -- the line on the error output, or a prefix of it where a put on it was refused
   pub silent : status ≡ 0 → run.err.after.held ≡ run.err.before.held
-  pub memory_told : status ≡ 1 → Told memory_line run.err
-  pub usage_told : status ≡ 2 → Told usage_line run.err
-  pub fault_told : status ≡ 3 → Told fault_line run.err
+  pub memory_printed : status ≡ 1 → Printed memory_line run.err
+  pub usage_printed : status ≡ 2 → Printed usage_line run.err
+  pub fault_printed : status ≡ 3 → Printed fault_line run.err

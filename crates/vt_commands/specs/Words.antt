@@ -35,15 +35,15 @@ command_of (walking.Walk words) = Walk words
 command_of (walking.Trial words) = Trial words
 
 -- the command without where its words lie in memory
-abbrev pub shown : Command → CommandText
-shown (Store command) = OfStore (shown_store command)
-shown (Replay words) = OfWalk (ReplayCommand (shown_replay words))
-shown (Walk words) = OfWalk (WalkCommand (shown_walk words))
-shown (Trial words) = OfWalk (TrialCommand (shown_trial words))
+abbrev pub shown_words : Command → CommandText
+shown_words (Store command) = OfStore (shown_store command)
+shown_words (Replay words) = OfWalk (ReplayCommand (shown_replay words))
+shown_words (Walk words) = OfWalk (WalkCommand (shown_walk words))
+shown_words (Trial words) = OfWalk (TrialCommand (shown_trial words))
 
 -- the numbers among the words of a command are lawful
-abbrev pub IsLawful : Command → Type 0
-IsLawful (Store command) = IsLawfulStore command
-IsLawful (Replay words) = IsLawfulReplay words
-IsLawful (Walk words) = IsLawfulWalk words
-IsLawful (Trial words) = IsLawfulTrial words
+abbrev pub HasLawfulNumbers : Command → Type 0
+HasLawfulNumbers (Store command) = IsLawfulStore command
+HasLawfulNumbers (Replay words) = IsLawfulReplay words
+HasLawfulNumbers (Walk words) = IsLawfulWalk words
+HasLawfulNumbers (Trial words) = IsLawfulTrial words

@@ -2,7 +2,7 @@
 use Rattle.std.specs.Prelude.{◌≡◌, ◌⊎◌, ℕ, List, Option, Some, IsNone, Result, Ok, Err}
 use Rattle.vt_command_words.specs.Commands.{ReplayCommand, WalkCommand, TrialCommand}
 use Rattle.vt_commands.specs.Words.{CommandText, OfStore, OfWalk, command_text}
-use Rattle.vt_command_inputs.specs.Effects.{CallEffect, IsIdle}
+use Rattle.vt_command_inputs.specs.Effects.{CallEffect, HasNoEffect}
 use Rattle.vt_command_inputs.specs.CommandSpecs.{CommandSpec, EndsBy}
 use Rattle.vt_walk_commands.specs.StoreCommandsCommands.{store_spec}
 use Rattle.vt_walk_commands.specs.commands.Replay.{replay_spec}
@@ -29,9 +29,9 @@ IsUnread asked (TooFewFrames frames needed) = ⊥
 IsUnread asked (DoesNotFit picture wanted room) = ⊥
 
 -- the words were refused, and nothing was asked
-pub record IsRefused (words : List (List ℕ)) (c : CallEffect) (refusal : Refusal) : Type 0 where
+pub record AreWordsRefused (words : List (List ℕ)) (c : CallEffect) (refusal : Refusal) : Type 0 where
   pub unread : IsUnread (command_text words) refusal
-  pub idle : IsIdle c
+  pub idle : HasNoEffect c
 
 -- the words are those of a command, which ended so
 pub record EndsCommand {T : Type 0} (m : Machines) (words : List (List ℕ)) (c : CallEffect) (result : Result T Refusal) : Type 0 where
@@ -42,4 +42,4 @@ pub record EndsCommand {T : Type 0} (m : Machines) (words : List (List ℕ)) (c 
 -- how a run ends
 abbrev pub EndsRun : {T : Type 0} → Machines → List (List ℕ) → CallEffect → Result T Refusal → Type 0
 EndsRun {T} m words c (Ok value) = EndsCommand {T = T} m words c (Ok value)
-EndsRun {T} m words c (Err refusal) = IsRefused words c refusal ⊎ EndsCommand {T = T} m words c (Err refusal)
+EndsRun {T} m words c (Err refusal) = AreWordsRefused words c refusal ⊎ EndsCommand {T = T} m words c (Err refusal)

@@ -2,7 +2,7 @@
 
 ghost use Rattle.std.specs.Prelude.{◌≡◌, false};
 ghost use Rattle.vt_command_words.specs.Arguments.{texts};
-ghost use Rattle.vt_commands.specs.Words.{shown, IsLawful};
+ghost use Rattle.vt_commands.specs.Words.{shown_words, HasLawfulNumbers};
 ghost use Rattle.vt_command_inputs.specs.Effects.{call_effect};
 ghost use Rattle.vt_command_inputs.specs.CommandSpecs.{EndsBy};
 ghost use Rattle.vt_commands.specs.commands.{spec_of, EndsRun};
@@ -12,7 +12,7 @@ ghost use Rattle.vt_commands.specs.Runs.{run_of, IsRun};
 use crate::command::{Command, read_command};
 use std::alloc::Global;
 use std::thread::Threads;
-use vt_command_inputs::{Refusal, status_of, tell_end};
+use vt_command_inputs::{Refusal, print_end, status_of};
 use vt_outside::{Folder, Sink};
 use vt_walk_commands::{perform_store_command, replay, usage_line};
 
@@ -48,7 +48,7 @@ pub fn run_at_once<Rt: Threads + Sync, D: Folder, O: Sink, E: Sink>(
         err.new) result }
 {
     let end = do_at_once(rt, alloc, words, folder, out);
-    tell_end(&end, usage_line(), err);
+    print_end(&end, usage_line(), err);
     status_of(&end)
 }
 
@@ -76,9 +76,9 @@ fn perform_at_once<'a, Rt: Threads + Sync, D: Folder, O: Sink>(
     folder: &mut D,
     out: &mut O,
 ) -> Result<(), Refusal<'a>>
-    requires lawful { IsLawful command.now }
-    requires at_once { MayWait (shown command.now) → ⊥ }
-    ensures { EndsBy (spec_of no_machines (shown command.now))
+    requires lawful { HasLawfulNumbers command.now }
+    requires at_once { MayWait (shown_words command.now) → ⊥ }
+    ensures { EndsBy (spec_of no_machines (shown_words command.now))
         (call_effect D.Folder O.Sink folder.old folder.new out.old out.new) result }
 {
     match command {

@@ -2,8 +2,8 @@
 
 ghost use Rattle.std.specs.Prelude.{◌≡◌, Some, IfOk, IsErr, IsErrOf, IsNone};
 ghost use Rattle.vt_command_words.specs.Arguments.{texts};
-ghost use Rattle.vt_command_words.specs.Reading.{IsAnswer};
-ghost use Rattle.vt_commands.specs.Words.{is_walking_name, named_text, command_text, command_of, shown, IsLawful};
+ghost use Rattle.vt_command_words.specs.Reading.{IsReadAnswer};
+ghost use Rattle.vt_commands.specs.Words.{is_walking_name, named_text, command_text, command_of, shown_words, HasLawfulNumbers};
 
 use std::alloc::Global;
 use vt_command_words::{
@@ -29,9 +29,9 @@ pub enum Command<'a> {
 ///
 /// `Usage` comes only where they are no command's. Where they are, the answer may still be `NoMemory`.
 pub fn read_command<'a>(alloc: Global, words: &'a [String]) -> Result<Command<'a>, WordsError>
-    ensures read { IfOk result (λ command. command_text (texts words.entry.now) ≡ Some (shown command)) }
+    ensures read { IfOk result (λ command. command_text (texts words.entry.now) ≡ Some (shown_words command)) }
     ensures usage { IsErrOf result WordsError.Usage → IsNone (command_text (texts words.entry.now)) }
-    ensures lawful { IfOk result IsLawful }
+    ensures lawful { IfOk result HasLawfulNumbers }
     ensures refused { IsNone (command_text (texts words.entry.now)) → IsErr result }
 {
     match words {
@@ -46,7 +46,7 @@ fn read_named<'a>(
     name: &'a str,
     words: &'a [String],
 ) -> Result<Command<'a>, WordsError>
-    ensures { IsAnswer shown IsLawful (named_text name.entry.now (texts words.entry.now)) result }
+    ensures { IsReadAnswer shown_words HasLawfulNumbers (named_text name.entry.now (texts words.entry.now)) result }
 {
     if is_walking_name(name) {
         let walking = read_walking_command(alloc, name, words)?;

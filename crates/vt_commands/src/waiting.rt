@@ -2,7 +2,7 @@
 
 ghost use Rattle.std.specs.Prelude.{◌≡◌, true};
 ghost use Rattle.vt_command_words.specs.Arguments.{texts};
-ghost use Rattle.vt_commands.specs.Words.{shown, IsLawful};
+ghost use Rattle.vt_commands.specs.Words.{shown_words, HasLawfulNumbers};
 ghost use Rattle.vt_command_inputs.specs.Effects.{call_effect};
 ghost use Rattle.vt_walk_commands.specs.Machines.{machines_of, kind_of};
 ghost use Rattle.vt_command_inputs.specs.CommandSpecs.{EndsBy};
@@ -15,7 +15,7 @@ use crate::command::{Command, read_command};
 use std::alloc::Global;
 use std::sync::Wait;
 use std::thread::Threads;
-use vt_command_inputs::{Refusal, status_of, tell_end};
+use vt_command_inputs::{Refusal, print_end, status_of};
 use vt_outside::{Folder, Gate, Sink};
 use vt_walk_commands::{PassMachine, trial, usage_line};
 
@@ -44,7 +44,7 @@ pub fn run_waiting<
         D.Folder O.Sink E.Sink (texts words.now) folder.old folder.new out.old out.new err.old err.new) result }
 {
     let end = do_waiting::<M, Swap, Steal, Blend, Rt, D, O, G>(rt, alloc, words, folder, out, gate);
-    tell_end(&end, usage_line(), err);
+    print_end(&end, usage_line(), err);
     status_of(&end)
 }
 
@@ -94,10 +94,10 @@ fn perform_waiting<
     out: &mut O,
     gate: &G,
 ) -> Result<(), Refusal<'a>>
-    requires lawful { IsLawful command.now }
-    requires waits { MayWait (shown command.now) }
+    requires lawful { HasLawfulNumbers command.now }
+    requires waits { MayWait (shown_words command.now) }
     ensures { EndsBy (spec_of (machines_of (kind_of M.PassMachine) (kind_of Swap.PassMachine) (kind_of Steal.PassMachine) (kind_of Blend.PassMachine))
-        (shown command.now)) (call_effect D.Folder O.Sink folder.old folder.new out.old out.new) result }
+        (shown_words command.now)) (call_effect D.Folder O.Sink folder.old folder.new out.old out.new) result }
 {
     match command {
         Command::Walk(words) => {

@@ -4,12 +4,12 @@ use Rattle.vt_pages.specs.Shape.{Shape}
 use Rattle.vt_pages.specs.Pages.{texel_page}
 use Rattle.vt_camera.specs.Rows.{RowView, row_level, row_place}
 use Rattle.vt_draw.specs.declared.lookups.Found.{Found}
-use Rattle.vt_draw.specs.Lookups.{Note, WordNote, IsFinest, place_in_tile}
+use Rattle.vt_draw.specs.Lookups.{Note, WordNote, IsFinestFound, place_in_tile}
 use Rattle.vt_pages.specs.Depths.{texel_bytes}
 use Rattle.vt_draw.specs.Shots.{wanted_page, drawn_place, IsDrawn}
 
 pub finest_kept : (s : Shape) (version : ℕ) (says later : Note → Type 0) (p : ℕ) (found : Found) → ((note : Note) → says note → later note)
-    → IsFinest s version says p found → IsFinest s version later p found
+    → IsFinestFound s version says p found → IsFinestFound s version later p found
 finest_kept s version says later p found said h = record {
   no_finer = h.no_finer;
   level_inside = h.level_inside;
@@ -46,10 +46,10 @@ drawn-more s d version says later row x before after said kept here so_far i bel
 -- the same of a look-up that has the same shape and version under other names
 pub finest_moved : (s t : Shape) (version same : ℕ) (says later : Note → Type 0) (p : ℕ) (found : Found) → t ≡ s
     → same ≡ version → ((note : Note) → says note → later note)
-    → IsFinest s version says p found → IsFinest t same later p found
+    → IsFinestFound s version says p found → IsFinestFound t same later p found
 finest_moved s t version same says later p found shape number said h =
-    let P : Shape → Type 0 = λ z. IsFinest z version later p found in
-    let Q : ℕ → Type 0 = λ n. IsFinest t n later p found in
+    let P : Shape → Type 0 = λ z. IsFinestFound z version later p found in
+    let Q : ℕ → Type 0 = λ n. IsFinestFound t n later p found in
     subst Q (sym number) (subst P (sym shape) (finest_kept s version says later p found said h))
 
 -- the page of the texel that a pixel shows is the one that it wants

@@ -11,7 +11,7 @@ use Rattle.vt_camera.specs.Rows.{RowView, row_level, row_place, camera_place}
 use Rattle.vt_camera.proofs.LevelLemmas.{inside_level, level_of_within}
 use Rattle.vt_camera.proofs.Ground.{ring_place_below}
 use Rattle.vt_draw.specs.declared.lookups.Found.{Found}
-use Rattle.vt_draw.specs.Lookups.{Note, IsFinest}
+use Rattle.vt_draw.specs.Lookups.{Note, IsFinestFound}
 use Rattle.vt_draw.specs.Plain.{camera_at}
 use Rattle.vt_draw.specs.Shots.{shot_row, wanted_page}
 
@@ -39,7 +39,7 @@ line_covers s k x y j some level column line low top =
     ∙ ap (λ (i : ℕ). texel_page s j (x / 2 ^ j) i) (deeper y k j low)
 
 pub found_covers : (s : Shape) (version : ℕ) (says : Note → Type 0) (k x y : ℕ) (found : Found) → 1 ≤ s.tile → k < levels_of s → x < s.width → y < s.height
-    → IsFinest s version says (texel_page s k (x / 2 ^ k) (y / 2 ^ k)) found → texel_page s found.level (x / 2 ^ found.level) (y / 2 ^ found.level) ≡ found.page
+    → IsFinestFound s version says (texel_page s k (x / 2 ^ k) (y / 2 ^ k)) found → texel_page s found.level (x / 2 ^ found.level) (y / 2 ^ found.level) ≡ found.page
 found_covers s version says k x y found some level column line finest =
     let at : level_of s (texel_page s k (x / 2 ^ k) (y / 2 ^ k)) ≡ k =
     (texel_is_page s k (x / 2 ^ k) (y / 2 ^ k) some (place_inside s k x y level column line)).level in

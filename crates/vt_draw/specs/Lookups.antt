@@ -23,7 +23,7 @@ covering_place s level column line = place_in_tile s (column / 2 ^ level) (line 
 
 -- a page of the line of page p was found: by what is said it is mapped to the slot, and each finer page of the line is
 -- unmapped (van Waveren 2012)
-pub record IsFinest (s : Shape) (version : ℕ) (says : Note → Type 0) (p : ℕ) (found : Found) : Type 0 where
+pub record IsFinestFound (s : Shape) (version : ℕ) (says : Note → Type 0) (p : ℕ) (found : Found) : Type 0 where
   pub no_finer : level_of s p ≤ found.level
   pub level_inside : found.level < levels_of s
   pub page : found.page ≡ ancestor_of s p found.level

@@ -8,7 +8,7 @@ use Rattle.vt_camera.specs.declared.surfaces.Surface.{Surface}
 use Rattle.vt_camera.specs.Paths.{PathView}
 use Rattle.vt_camera.specs.Rows.{RowView, row_of, row_level, row_place}
 use Rattle.vt_draw.specs.declared.lookups.Found.{Found}
-use Rattle.vt_draw.specs.Lookups.{Note, WordNote, IsFinest, covering_page, covering_place}
+use Rattle.vt_draw.specs.Lookups.{Note, WordNote, IsFinestFound, covering_page, covering_place}
 use Rattle.vt_draw.specs.Plain.{camera_at}
 
 -- a texture that is cut into pages, as a camera sees it: its sides and its number of levels
@@ -48,7 +48,7 @@ drawn_place s row x level = covering_place s level (row_place row x).0 (row_plac
 pub record IsDrawn (s : Shape) (d version : ℕ) (says : Note → Type 0) (row : RowView) (x : ℕ) (bytes : List ℕ) : Type 0 where
   pub found : Found
   pub word : ℕ
-  pub finest : IsFinest s version says (wanted_page s row x) found
+  pub finest : IsFinestFound s version says (wanted_page s row x) found
   pub read : says (WordNote version found.slot (drawn_place s row x found.level) word)
   pub shown : bytes ≡ word_bytes d word
 

@@ -4,7 +4,7 @@ ghost use Rattle.std.specs.Prelude.{◌≡◌, ℕ, ◌+◌, ◌*◌, ◌<◌};
 ghost use Rattle.vt_pages.specs.Shape.{Shape};
 ghost use Rattle.vt_pages.specs.Pages.{level_of, pages_of, texel_page};
 ghost use Rattle.vt_pages.specs.Laws.{IsInside};
-ghost use Rattle.vt_draw.specs.Lookups.{Note, EntryNote, WordNote, IsFinest, place_in_tile};
+ghost use Rattle.vt_draw.specs.Lookups.{Note, EntryNote, WordNote, IsFinestFound, place_in_tile};
 
 use vt_pages::Geometry;
 
@@ -40,7 +40,7 @@ pub trait Lookup {
     /// Answers the finest mapped page among a page and its ancestors; `page` is below the page count.
     fn find(&mut self, page: u32) -> Found
         requires { page < pages_of (shape self.old) }
-        ensures finest { IsFinest (shape self.new) (version self.new) (says self.new) page result }
+        ensures finest { IsFinestFound (shape self.new) (version self.new) (says self.new) page result }
         ensures said { (note : Note) → says self.old note → says self.new note }
         ensures version { version self.new ≡ version self.old }
         ensures shape { shape self.new ≡ shape self.old }

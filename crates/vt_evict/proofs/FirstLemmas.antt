@@ -9,7 +9,7 @@ use Rattle.std.proofs.lemmas.List.FromFn.{length-range_with_len, get_or-range_wi
 use Rattle.vt_plan.specs.Limits.{most_frames}
 use Rattle.vt_plan.specs.Shape.{Shape}
 use Rattle.vt_plan.specs.Pages.{pages_of, IsWithinLimits}
-use Rattle.vt_plan.specs.Views.{IsTable, is_held, first_view}
+use Rattle.vt_plan.specs.Views.{IsRecencyTable, is_held, first_view}
 use Rattle.vt_evict.proofs.SettleLemmas.{held_from, held_by, same_bool}
 
 pub range-more : (a n : ℕ) → range_with_len a (n + 1) ≡ range_with_len a n ++ (a + n) ∷ []
@@ -50,7 +50,7 @@ module _ (low pinned : ℕ) where
   ]
 
 pub first_table : (s : Shape) (frames pinned : ℕ) → IsWithinLimits s → frames ≤ most_frames → 1 ≤ pinned → pinned ≤ frames → pinned ≤ pages_of s
-    → IsTable (first_view s frames pinned)
+    → IsRecencyTable (first_view s frames pinned)
 unfolding first_view IsDistinct
 first_table s frames pinned limits most some enough pages = record {
   limits = limits;

@@ -21,9 +21,9 @@ use Rattle.vt_plan.specs.declared.batches.Planned.{Planned}
 use Rattle.vt_plan.specs.Lookups.{next_finer_page}
 use Rattle.vt_plan.specs.Orders.{line_pages}
 use Rattle.vt_plan.specs.PageLists.{is_in}
-use Rattle.vt_plan.specs.Views.{RecencyView, IsTable, is_pinned, is_loose, is_held, frame_of, free_frames}
-use Rattle.vt_plan.specs.Missing.{is_mapped, missing_from}
-use Rattle.vt_evict.specs.Batches.{IsLawful, IsLawfulEntry}
+use Rattle.vt_plan.specs.Views.{RecencyView, IsRecencyTable, is_pinned, is_loose, is_held, frame_of, free_frames}
+use Rattle.vt_plan.specs.Missing.{has_frame, missing_from}
+use Rattle.vt_evict.specs.Batches.{IsLawfulBatch, IsLawfulEntry}
 use Rattle.vt_plan.specs.Plans.{missing_pages, candidates, planned_at, planned_count, plan_of}
 use Rattle.vt_plan.specs.Entries.{freed_at, taken_at}
 use Rattle.vt_evict.proofs.ListLemmas.{nat_eq_swap, is_in-reverse, distinct-filter, each_once_distinct, by_recursion-each_once, range_once, and_true, and_false}
@@ -67,13 +67,13 @@ steps_gap s m (p ∷ ps) limits h = test (m p) refl (steps_gap s m ps limits h.1
 abbrev AreInside : RecencyView → List Wanted → Type 0
 AreInside v wants = All (λ w. w.page < pages_of v.shape) wants
 
-missing_gaps : (v : RecencyView) (wants : List Wanted) → IsTable v → AreInside v wants
-    → AllByRecursion (IsGap v.shape (is_mapped v.entries)) (missing_pages v wants)
+missing_gaps : (v : RecencyView) (wants : List Wanted) → IsRecencyTable v → AreInside v wants
+    → AllByRecursion (IsGap v.shape (has_frame v.entries)) (missing_pages v wants)
 unfolding missing_pages missing_from
 missing_gaps v wants h inside =
     let pages : AllByRecursion (λ p. p < pages_of v.shape) (pages_wanted wants) =
     recursion_from_All (λ p. p < pages_of v.shape) (pages_wanted wants) (All-map (λ p. p < pages_of v.shape) (λ w. w.page) wants inside) in
-    by_recursion-each_once (IsGap v.shape (is_mapped v.entries)) _ (steps_gap v.shape (is_mapped v.entries) (pages_wanted wants) h.limits pages)
+    by_recursion-each_once (IsGap v.shape (has_frame v.entries)) _ (steps_gap v.shape (has_frame v.entries) (pages_wanted wants) h.limits pages)
 
 missing_once : (v : RecencyView) (wants : List Wanted) → IsDistinct nat_eq (missing_pages v wants)
 unfolding missing_pages missing_from
@@ -84,7 +84,7 @@ record IsRoom (v : RecencyView) (p : ℕ) : Type 0 where
   pub unpinned : p + v.pinned < pages_of v.shape
   pub unmapped : slice_index v.entries p ≡ 0
 
-gap_room : (v : RecencyView) (p : ℕ) → IsTable v → IsGap v.shape (is_mapped v.entries) p → IsRoom v p
+gap_room : (v : RecencyView) (p : ℕ) → IsRecencyTable v → IsGap v.shape (has_frame v.entries) p → IsRoom v p
 gap_room v p h gap = record {
   unpinned = elim (cases_lt (p + v.pinned) (pages_of v.shape)) [
     | inl below ↦ below
@@ -98,12 +98,12 @@ gap_room v p h gap = record {
   zero_of : (n : ℕ) → nat_lt 0 n ≡ false → n ≡ 0
   zero_of n h = grind (arith, nat_tests)
 
-missing_room : (v : RecencyView) (wants : List Wanted) (j : ℕ) → IsTable v → AreInside v wants
+missing_room : (v : RecencyView) (wants : List Wanted) (j : ℕ) → IsRecencyTable v → AreInside v wants
     → j < length (missing_pages v wants) → IsRoom v (slice_index (missing_pages v wants) j)
 missing_room v wants j h inside below =
     gap_room v (slice_index (missing_pages v wants) j) h
-    (All-get_or (IsGap v.shape (is_mapped v.entries)) (missing_pages v wants) j 0 below
-    (All-from_recursion (IsGap v.shape (is_mapped v.entries)) (missing_pages v wants) (missing_gaps v wants h inside)))
+    (All-get_or (IsGap v.shape (has_frame v.entries)) (missing_pages v wants) j 0 below
+    (All-from_recursion (IsGap v.shape (has_frame v.entries)) (missing_pages v wants) (missing_gaps v wants h inside)))
 
 here : (xs : List ℕ) (k : ℕ) → k < length xs → is_in xs (slice_index xs k) ≡ true
 here xs k below = list_any_at (nat_eq (slice_index xs k)) xs k 0 below (self_eq (slice_index xs k))
@@ -111,14 +111,14 @@ here xs k below = list_any_at (nat_eq (slice_index xs k)) xs k 0 below (self_eq 
 -- a page that may be given up
 record IsSpare (v : RecencyView) (p : ℕ) : Type 0 where
   pub unpinned : p + v.pinned < pages_of v.shape
-  pub mapped : is_mapped v.entries p ≡ true
+  pub mapped : has_frame v.entries p ≡ true
   pub some : 0 < slice_index v.entries p
 
 spare : (v : RecencyView) (p : ℕ) → is_loose v p ≡ true → IsSpare v p
 spare v p loose =
-    let m : is_mapped v.entries p ≡ true = first_of_and (is_mapped v.entries p) (not (is_pinned v p)) loose in
+    let m : has_frame v.entries p ≡ true = first_of_and (has_frame v.entries p) (not (is_pinned v p)) loose in
     record {
-      unpinned = second (is_mapped v.entries p) (pages_of v.shape) (p + v.pinned) loose;
+      unpinned = second (has_frame v.entries p) (pages_of v.shape) (p + v.pinned) loose;
       mapped = m;
       some = positive (slice_index v.entries p) m;
     } where
@@ -126,7 +126,7 @@ spare v p loose =
       second true m n h = grind (arith, nat_tests)
       second false m n h = absurd (false≢true h)
 
-candidate_spare : (v : RecencyView) (wants : List Wanted) (k : ℕ) → IsTable v → k < length (candidates v wants)
+candidate_spare : (v : RecencyView) (wants : List Wanted) (k : ℕ) → IsRecencyTable v → k < length (candidates v wants)
     → IsSpare v (slice_index (candidates v wants) k)
 unfolding candidates
 candidate_spare v wants k h below =
@@ -135,7 +135,7 @@ candidate_spare v wants k h below =
     spare v p (sym (h.in_order p) ∙ sym (is_in-reverse v.order p)
     ∙ first_of_and (is_in (reverse v.order) p) (t p) (sym (is_in-filter t (reverse v.order) p) ∙ here (candidates v wants) k below))
 
-candidates_once : (v : RecencyView) (wants : List Wanted) → IsTable v → IsDistinct nat_eq (candidates v wants)
+candidates_once : (v : RecencyView) (wants : List Wanted) → IsRecencyTable v → IsDistinct nat_eq (candidates v wants)
 unfolding candidates
 candidates_once v wants h =
     distinct-filter (λ p. not (is_in (line_pages v.shape (pages_wanted wants)) p)) (reverse v.order)
@@ -173,7 +173,7 @@ distinct_at xs i j once less below = AllPairs-from_IsDistinct Decides-eqb xs onc
 abbrev entry : RecencyView → List Wanted → ℕ → Planned
 entry v wants j = planned_at v.entries (missing_pages v wants) (free_frames v) (candidates v wants) j
 
-freed_lawful : (v : RecencyView) (wants : List Wanted) (j : ℕ) → IsTable v → AreInside v wants
+freed_lawful : (v : RecencyView) (wants : List Wanted) (j : ℕ) → IsRecencyTable v → AreInside v wants
     → j < length (missing_pages v wants) → j < length (free_frames v)
     → IsLawfulEntry v (freed_at (missing_pages v wants) (free_frames v) j)
 freed_lawful v wants j h inside some below =
@@ -186,7 +186,7 @@ freed_lawful v wants j h inside some below =
       place = λ p e. false≢true (sym left.free ∙ held_from v.entries (slice_index (free_frames v) j) p e);
     }
 
-taken_lawful : (v : RecencyView) (wants : List Wanted) (k : ℕ) → IsTable v → AreInside v wants
+taken_lawful : (v : RecencyView) (wants : List Wanted) (k : ℕ) → IsRecencyTable v → AreInside v wants
     → length (free_frames v) + k < length (missing_pages v wants)
     → k < length (candidates v wants) → IsLawfulEntry v (taken_at v.entries (missing_pages v wants) (candidates v wants) (length (free_frames v)) k)
 taken_lawful v wants k h inside some below =
@@ -201,7 +201,7 @@ taken_lawful v wants k h inside some below =
       place = record { unpinned = s.unpinned; held = omega arith };
     }
 
-entry_lawful : (v : RecencyView) (wants : List Wanted) (j : ℕ) → IsTable v → AreInside v wants
+entry_lawful : (v : RecencyView) (wants : List Wanted) (j : ℕ) → IsRecencyTable v → AreInside v wants
     → j < length (missing_pages v wants)
     → j < length (free_frames v) + length (candidates v wants) → IsLawfulEntry v (entry v wants j)
 entry_lawful v wants j h inside some enough = elim (cases_lt j (length (free_frames v))) [
@@ -235,7 +235,7 @@ freed_frame : (v : RecencyView) (wants : List Wanted) (j : ℕ) → j < length (
 freed_frame v wants j below = get_or_append_left (free_frames v) (map (frame_of v.entries) (candidates v wants)) 0 j below
 
 -- no frame is in two entries
-frames_apart : (v : RecencyView) (wants : List Wanted) (i j : ℕ) → IsTable v → i < j
+frames_apart : (v : RecencyView) (wants : List Wanted) (i j : ℕ) → IsRecencyTable v → i < j
     → j < length (free_frames v) + length (candidates v wants)
     → slice_index (frames_given v wants) i ≢ slice_index (frames_given v wants) j
 frames_apart v wants i j h less enough same = elim (cases_lt j (length (free_frames v))) [
@@ -263,8 +263,8 @@ frames_apart v wants i j h less enough same = elim (cases_lt j (length (free_fra
       ]
 ]
 
-pub plan_lawful : (v : RecencyView) (wants : List Wanted) (q : ℕ) → IsTable v
-    → All (λ w. w.page < pages_of v.shape) wants → IsLawful v (plan_of v wants q)
+pub plan_lawful : (v : RecencyView) (wants : List Wanted) (q : ℕ) → IsRecencyTable v
+    → All (λ w. w.page < pages_of v.shape) wants → IsLawfulBatch v (plan_of v wants q)
 unfolding plan_of
 plan_lawful v wants q h inside =
     let n : ℕ = planned_count q (missing_pages v wants) (free_frames v) (candidates v wants) in

@@ -15,7 +15,7 @@ use Rattle.vt_plan.proofs.Lines.{parent_is, reaches_root}
 use Rattle.vt_plan.proofs.Parents.{parent_page, line-root, line-parent, parent_facts, root_facts, level_below, line_distinct}
 use Rattle.vt_plan.specs.Orders.{line_pages}
 use Rattle.vt_plan.specs.PageLists.{is_in, each_once, with_page}
-use Rattle.vt_evict.specs.Kept.{IsClosed}
+use Rattle.vt_evict.specs.Kept.{HasParents}
 use Rattle.vt_evict.proofs.ListLemmas.{nat_eq_swap, each_once-distinct, filter_none, by_recursion-reverse, is_in-more, is_in-reverse}
 use Rattle.vt_plan.proofs.ListLemmas.{nat_eq_true, filter_same, is_in-each_once, each_once-append}
 use Rattle.vt_evict.proofs.WalkLemmas.{is_in-push, or_true, or_false}
@@ -43,7 +43,7 @@ pub with_new : (xs : List ℕ) (p : ℕ) → is_in xs p ≡ false → with_page 
 with_new xs p e = ap (λ (b : Bool). cond b xs (xs ++ p ∷ [])) e
 
 -- a closed list that has a page has its line
-pub line_within : (s : Shape) (w : List ℕ) (up p : ℕ) → IsWithinLimits s → IsClosed s w → level_of s p + up + 1 ≡ levels_of s → p < pages_of s
+pub line_within : (s : Shape) (w : List ℕ) (up p : ℕ) → IsWithinLimits s → HasParents s w → level_of s p + up + 1 ≡ levels_of s → p < pages_of s
     → is_in w p ≡ true
     → AllByRecursion (λ r. is_in w r ≡ true) (ancestors_of s p)
 line_within s w zero p limits closed up inside there = rw (line-root s p limits inside (omega arith)) (there, tt)
@@ -67,7 +67,7 @@ nots : (w xs : List ℕ) → AllByRecursion (λ r. is_in w r ≡ true) xs → Al
 nots w [] h = tt
 nots w (x ∷ xs) h = (ap not h.0, nots w xs h.1)
 
-pub over_none : (s : Shape) (w : List ℕ) (p : ℕ) → IsWithinLimits s → IsClosed s w → p < pages_of s → is_in w p ≡ true → w ≡ walked_over s w p
+pub over_none : (s : Shape) (w : List ℕ) (p : ℕ) → IsWithinLimits s → HasParents s w → p < pages_of s → is_in w p ≡ true → w ≡ walked_over s w p
 over_none s w p limits closed inside there =
     let below = level_below s p limits inside in
     let all = line_within s w (levels_of s - 1 - level_of s p) p limits closed (omega arith) inside there in
@@ -114,7 +114,7 @@ parent_in s w q limits inside =
     is_in-more w (reverse (ancestors_of s q)) q ∙ ap (λ (b : Bool). is_in w q || b) (is_in-reverse (ancestors_of s q) q ∙ first_in s q limits inside)
     ∙ or_true (is_in w q)
 
-pub closed_push : (s : Shape) (w : List ℕ) (p : ℕ) → IsClosed s w → ((q : ℕ) → parent_of s p ≡ Some q → is_in w q ≡ true) → IsClosed s (w ++ p ∷ [])
+pub closed_push : (s : Shape) (w : List ℕ) (p : ℕ) → HasParents s w → ((q : ℕ) → parent_of s p ≡ Some q → is_in w q ≡ true) → HasParents s (w ++ p ∷ [])
 closed_push s w p closed parent = record { parents = λ r q there e. is_in-push w p q ∙ found r q there e (nat_eq r p) refl } where
   found : (r q : ℕ) → is_in (w ++ p ∷ []) r ≡ true → parent_of s r ≡ Some q → (b : Bool) → nat_eq r p ≡ b → (is_in w q || nat_eq q p) ≡ true
   found r q there e true same = rw (parent q (ap (parent_of s) (sym (nat_eq_true r p same)) ∙ e)) refl
@@ -141,5 +141,5 @@ pub line_pages-none : (s : Shape) → line_pages s [] ≡ []
 unfolding line_pages
 line_pages-none s = refl
 
-pub closed_none : (s : Shape) → IsClosed s []
+pub closed_none : (s : Shape) → HasParents s []
 closed_none s = record { parents = λ p q there e. absurd (false≢true there) }

@@ -10,7 +10,7 @@ use Rattle.vt_plan.specs.FeedbackTypes.Wanted.{Wanted}
 use Rattle.vt_plan.specs.declared.batches.Planned.{Planned}
 use Rattle.vt_plan.specs.Views.{RecencyView, frame_of}
 use Rattle.vt_plan.specs.Plans.{candidates, planned_at, planned_count}
-use Rattle.vt_evict.specs.Kept.{HasTaken}
+use Rattle.vt_evict.specs.Kept.{HasTakenFrames}
 use Rattle.vt_plan.specs.Entries.{freed_at, taken_at}
 
 map_range_same : {X : Type 0} (f g : ℕ → X) (n : ℕ) → ((j : ℕ) → j < n → f j ≡ g j) → map f (range_with_len 0 n) ≡ map g (range_with_len 0 n)
@@ -96,7 +96,7 @@ module _ (entries missing free victims : List ℕ) where
 
 -- a batch that has so many entries takes no more
 pub none_taken : (v : RecencyView) (wants : List Wanted) (missing : List ℕ) (most : ℕ) (batch : List Planned) → most ≤ length batch
-    → HasTaken v wants missing most batch batch
+    → HasTakenFrames v wants missing most batch batch
 none_taken v wants missing most batch full =
     let none : min (most - length batch) (length (candidates v wants)) ≡ 0 = omega arith in
     sym (ap (λ (n : ℕ). batch ++ map (taken_at v.entries missing (candidates v wants) (length batch)) (range_with_len 0 n)) none ∙ append-nil batch)

@@ -6,8 +6,8 @@ use Rattle.vt_outside.specs.Lists.{ListView}
 use Rattle.vt_plan.specs.Pages.{pages_of}
 use Rattle.vt_plan.specs.FeedbackTypes.Wanted.{Wanted}
 use Rattle.vt_plan.specs.declared.batches.Planned.{Planned}
-use Rattle.vt_plan.specs.Views.{RecencyView, IsTable}
-use Rattle.vt_evict.specs.Batches.{IsLawful}
+use Rattle.vt_plan.specs.Views.{RecencyView, IsRecencyTable}
+use Rattle.vt_evict.specs.Batches.{IsLawfulBatch}
 use Rattle.vt_plan.specs.Plans.{plan_of, plan_by, missing_pages}
 use Rattle.vt_evict.proofs.LawfulLemmas.{plan_lawful, plan_count}
 
@@ -23,9 +23,9 @@ planned_is v wants missing q (Err e) m is = tt
 
 pub planned_lawful : {E : Type 0} (v : RecencyView) (wants : List Wanted) (missing : List ℕ) (q : ℕ) (made : Result (ListView Planned) E)
     → missing ≡ missing_pages v wants → IfOk made (λ b. b.elements ≡ plan_by v wants missing q)
-    → IsTable v → All (λ w. w.page < pages_of v.shape) wants → IfOk made (λ b. IsLawful v b.elements)
+    → IsRecencyTable v → All (λ w. w.page < pages_of v.shape) wants → IfOk made (λ b. IsLawfulBatch v b.elements)
 planned_lawful v wants missing q (Ok batch) m is table inside =
-    subst (IsLawful v) (sym (is ∙ same_plan v wants missing q m)) (plan_lawful v wants q table inside)
+    subst (IsLawfulBatch v) (sym (is ∙ same_plan v wants missing q m)) (plan_lawful v wants q table inside)
 planned_lawful v wants missing q (Err e) m is table inside = tt
 
 pub planned_most : {E : Type 0} (v : RecencyView) (wants : List Wanted) (missing : List ℕ) (q : ℕ) (made : Result (ListView Planned) E)

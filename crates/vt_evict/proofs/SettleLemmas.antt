@@ -12,9 +12,9 @@ use Rattle.std.proofs.lemmas.List.Folds.{list_any_at, list_any_none, Any-from_li
 use Rattle.vt_plan.specs.Pages.{pages_of}
 use Rattle.vt_plan.specs.declared.batches.Planned.{Planned}
 use Rattle.vt_plan.specs.PageLists.{is_in}
-use Rattle.vt_plan.specs.Views.{RecencyView, IsTable, is_pinned, is_loose, is_held}
-use Rattle.vt_plan.specs.Missing.{is_mapped}
-use Rattle.vt_evict.specs.Batches.{IsFree, IsLawful, IsVictim, IsLawfulEntry, IsSettled, is_page, is_victim, is_read, read_entries, settled_order}
+use Rattle.vt_plan.specs.Views.{RecencyView, IsRecencyTable, is_pinned, is_loose, is_held}
+use Rattle.vt_plan.specs.Missing.{has_frame}
+use Rattle.vt_evict.specs.Batches.{IsFreePage, IsLawfulBatch, IsVictim, IsLawfulEntry, IsSettledByReads, is_page, is_victim, is_read, read_entries, settled_order}
 use Rattle.vt_evict.specs.Kept.{without_victim, order_without, applied}
 use Rattle.vt_evict.proofs.ListLemmas.{distinct-cons, distinct-filter, filter_absent, and_true, and_false}
 use Rattle.vt_plan.proofs.ListLemmas.{nat_eq_true, all_true, filter_all, filter_twice, filter_same, is_in-filter}
@@ -53,12 +53,12 @@ pub record IsPlace (v : RecencyView) (o : Option ℕ) (frame : ℕ) : Type 0 whe
   pub victim : (p : ℕ) → is_page p o ≡ true → IsVictim v frame p
   pub holder : (p : ℕ) → slice_index v.entries p ≡ frame + 1 → is_page p o ≡ true
 
-pub place_of : (v : RecencyView) (o : Option ℕ) (frame : ℕ) → IsTable v → MatchOption o (IsFree v.entries frame) (IsVictim v frame) → IsPlace v o frame
+pub place_of : (v : RecencyView) (o : Option ℕ) (frame : ℕ) → IsRecencyTable v → MatchOption o (IsFreePage v.entries frame) (IsVictim v frame) → IsPlace v o frame
 place_of v None frame h free = record { victim = λ p e. absurd (false≢true e); holder = λ p e. absurd (free p e) }
 place_of v (Some q) frame h held = record {
   victim = λ p e. subst (IsVictim v frame) (nat_eq_true q p e) held;
   holder = λ p e.
-      let mapped : is_mapped v.entries p ≡ true = rw e (grind (arith, nat_tests)) in
+      let mapped : has_frame v.entries p ≡ true = rw e (grind (arith, nat_tests)) in
       let same : p ≡ q = h.apart p q mapped (e ∙ sym held.held) in
       rw same (self_eq q);
 }
@@ -113,8 +113,8 @@ pinned_false p k n h = grind (arith, nat_tests)
 pinned_below : (p k n : ℕ) → nat_le n (p + k) ≡ true → p + k < n → ⊥
 pinned_below p k n e h = grind (arith, nat_tests)
 
-pub after_table : (v : RecencyView) (o : Option ℕ) (page frame : ℕ) (new : List ℕ) → IsTable v → IsPlace v o frame → page + v.pinned < pages_of v.shape
-    → frame < v.frames → slice_index v.entries page ≡ 0 → IsAfter v.entries o page frame new → IsTable (after v o page new)
+pub after_table : (v : RecencyView) (o : Option ℕ) (page frame : ℕ) (new : List ℕ) → IsRecencyTable v → IsPlace v o frame → page + v.pinned < pages_of v.shape
+    → frame < v.frames → slice_index v.entries page ≡ 0 → IsAfter v.entries o page frame new → IsRecencyTable (after v o page new)
 after_table v o page frame new h place loose inside unmapped a = record {
   limits = h.limits;
   most_frames = h.most_frames;
@@ -136,41 +136,41 @@ after_table v o page frame new h place loose inside unmapped a = record {
   within p false e true f = omega (arith, a.unmapped p f)
   within p false e false f = omega (arith, a.other p (apart_from p e) f, h.frames_inside p)
 
-  pins : (p : ℕ) → p < pages_of v.shape → is_pinned v p ≡ true → (b : Bool) → nat_eq p page ≡ b → (c : Bool) → is_page p o ≡ c → is_mapped new p ≡ true
+  pins : (p : ℕ) → p < pages_of v.shape → is_pinned v p ≡ true → (b : Bool) → nat_eq p page ≡ b → (c : Bool) → is_page p o ≡ c → has_frame new p ≡ true
   pins p below pinned true e c f = let is : p ≡ page = nat_eq_true p page e in
       absurd (pinned_below page v.pinned (pages_of v.shape) (subst (λ (q : ℕ). is_pinned v q ≡ true) is pinned) loose)
   pins p below pinned false e true f = absurd (pinned_below p v.pinned (pages_of v.shape) pinned (place.victim p f).unpinned)
   pins p below pinned false e false f = ap (λ (n : ℕ). nat_lt 0 n) (a.other p (apart_from p e) f) ∙ h.pinned_mapped p below pinned
 
-  not_victim : (p : ℕ) → is_mapped new p ≡ true → is_page p o ≡ false
+  not_victim : (p : ℕ) → has_frame new p ≡ true → is_page p o ≡ false
   not_victim p m = test (is_page p o) refl where
     test : (b : Bool) → is_page p o ≡ b → b ≡ false
     test true e = absurd (false≢true (sym (mapped_not (slice_index new p) (a.unmapped p e)) ∙ m))
     test false e = refl
 
-  old_at : (p : ℕ) → is_mapped new p ≡ true → nat_eq p page ≡ false → slice_index new p ≡ slice_index v.entries p
+  old_at : (p : ℕ) → has_frame new p ≡ true → nat_eq p page ≡ false → slice_index new p ≡ slice_index v.entries p
   old_at p m e = a.other p (apart_from p e) (not_victim p m)
 
-  separate : (p q : ℕ) → is_mapped new p ≡ true → slice_index new p ≡ slice_index new q → (b : Bool) → nat_eq p page ≡ b → (c : Bool)
+  separate : (p q : ℕ) → has_frame new p ≡ true → slice_index new p ≡ slice_index new q → (b : Bool) → nat_eq p page ≡ b → (c : Bool)
       → nat_eq q page ≡ c → p ≡ q
   separate p q m same true e true f = nat_eq_true p page e ∙ sym (nat_eq_true q page f)
   separate p q m same true e false f =
-      let mq : is_mapped new q ≡ true = ap (λ (n : ℕ). nat_lt 0 n) (sym same) ∙ m in
+      let mq : has_frame new q ≡ true = ap (λ (n : ℕ). nat_lt 0 n) (sym same) ∙ m in
       let held : slice_index v.entries q ≡ frame + 1 = sym (old_at q mq f) ∙ sym same ∙ ap (slice_index new) (nat_eq_true p page e) ∙ a.mapped in
       absurd (false≢true (sym (not_victim q mq) ∙ place.holder q held))
   separate p q m same false e true f =
       let held : slice_index v.entries p ≡ frame + 1 = sym (old_at p m e) ∙ same ∙ ap (slice_index new) (nat_eq_true q page f) ∙ a.mapped in
       absurd (false≢true (sym (not_victim p m) ∙ place.holder p held))
   separate p q m same false e false f =
-      let mq : is_mapped new q ≡ true = ap (λ (n : ℕ). nat_lt 0 n) (sym same) ∙ m in
+      let mq : has_frame new q ≡ true = ap (λ (n : ℕ). nat_lt 0 n) (sym same) ∙ m in
       h.apart p q (ap (λ (n : ℕ). nat_lt 0 n) (sym (old_at p m e)) ∙ m) (sym (old_at p m e) ∙ same ∙ old_at q mq f)
 
   ordered : (p : ℕ) (b : Bool) → nat_eq p page ≡ b → (c : Bool) → is_page p o ≡ c
-      → (nat_eq p page || is_in (order_without v.order o) p) ≡ (is_mapped new p && not (is_pinned v p))
+      → (nat_eq p page || is_in (order_without v.order o) p) ≡ (has_frame new p && not (is_pinned v p))
   ordered p true e c f =
       let is : p ≡ page = nat_eq_true p page e in
       ap (λ (b : Bool). b || is_in (order_without v.order o) p) e
-      ∙ sym (ap (λ (q : ℕ). is_mapped new q && not (is_pinned v q)) is
+      ∙ sym (ap (λ (q : ℕ). has_frame new q && not (is_pinned v q)) is
       ∙ ap (λ (b : Bool). b && not (is_pinned v page)) (mapped_from (slice_index new page) frame a.mapped)
       ∙ ap not (pinned_false page v.pinned (pages_of v.shape) loose))
   ordered p false e true f =
@@ -254,18 +254,18 @@ held_more v page frame new unmapped a f = same_bool (is_held new f) (is_held v.e
 -- what an entry leaves
 pub record IsApplied (v : RecencyView) (e : Planned) (new order : List ℕ) : Type 0 where
   pub view : record v { entries = new; order = order } ≡ applied v e
-  pub table : IsTable (record v { entries = new; order = order })
+  pub table : IsRecencyTable (record v { entries = new; order = order })
 
 same_view : (v : RecencyView) (new a b : List ℕ) → a ≡ b → ◌≡◌ {A = RecencyView} (record v { entries = new; order = a }) (record v { entries = new; order = b })
 same_view v new a b e = ap (λ (l : List ℕ). let u : RecencyView = record v { entries = new; order = l } in u) e
 
-lawful_place : (v : RecencyView) (e : Planned) (o : Option ℕ) → IsTable v → IsLawfulEntry v e → e.victim ≡ o → IsPlace v o e.frame
-lawful_place v e o h l is = place_of v o e.frame h (subst (λ (x : Option ℕ). MatchOption x (IsFree v.entries e.frame) (IsVictim v e.frame)) is l.place)
+lawful_place : (v : RecencyView) (e : Planned) (o : Option ℕ) → IsRecencyTable v → IsLawfulEntry v e → e.victim ≡ o → IsPlace v o e.frame
+lawful_place v e o h l is = place_of v o e.frame h (subst (λ (x : Option ℕ). MatchOption x (IsFreePage v.entries e.frame) (IsVictim v e.frame)) is l.place)
 
-page_inside : (v : RecencyView) (e : Planned) → IsTable v → IsLawfulEntry v e → e.page < length v.entries
+page_inside : (v : RecencyView) (e : Planned) → IsRecencyTable v → IsLawfulEntry v e → e.page < length v.entries
 page_inside v e h l = omega (arith, l.unpinned, h.entries_for_all)
 
-lawful_after : (v : RecencyView) (e : Planned) (o : Option ℕ) → IsTable v → IsLawfulEntry v e → e.victim ≡ o
+lawful_after : (v : RecencyView) (e : Planned) (o : Option ℕ) → IsRecencyTable v → IsLawfulEntry v e → e.victim ≡ o
     → IsAfter v.entries o e.page e.frame (slice_set (without_victim v.entries o) e.page (e.frame + 1))
 lawful_after v e o h l is =
     after_of v.entries o e.page e.frame (page_inside v e h l) (page_is_new v o e.page e.frame (lawful_place v e o h l is) l.unmapped)
@@ -275,11 +275,11 @@ applied_at : (v : RecencyView) (e : Planned) (o : Option ℕ) → e.victim ≡ o
 unfolding applied
 applied_at v e o is = ap (λ (x : Option ℕ). after v x e.page (slice_set (without_victim v.entries x) e.page (e.frame + 1))) (sym is)
 
-pub lawful_table : (v : RecencyView) (e : Planned) (o : Option ℕ) → IsTable v → IsLawfulEntry v e → e.victim ≡ o
-    → IsTable (after v o e.page (slice_set (without_victim v.entries o) e.page (e.frame + 1)))
+pub lawful_table : (v : RecencyView) (e : Planned) (o : Option ℕ) → IsRecencyTable v → IsLawfulEntry v e → e.victim ≡ o
+    → IsRecencyTable (after v o e.page (slice_set (without_victim v.entries o) e.page (e.frame + 1)))
 lawful_table v e o h l is = after_table v o e.page e.frame _ h (lawful_place v e o h l is) l.unpinned l.frame_inside l.unmapped (lawful_after v e o h l is)
 
-pub applied_some : (v : RecencyView) (e : Planned) (q : ℕ) (order : List ℕ) → IsTable v → IsLawfulEntry v e → e.victim ≡ Some q
+pub applied_some : (v : RecencyView) (e : Planned) (q : ℕ) (order : List ℕ) → IsRecencyTable v → IsLawfulEntry v e → e.victim ≡ Some q
     → order ≡ filter (λ y. not (nat_eq q y)) (e.page ∷ v.order) → IsApplied v e (slice_set (slice_set v.entries q 0) e.page (e.frame + 1)) order
 applied_some v e q order h l is keys =
     let new : List ℕ = slice_set (slice_set v.entries q 0) e.page (e.frame + 1) in
@@ -289,19 +289,19 @@ applied_some v e q order h l is keys =
     let view = same_view v (slice_set (slice_set v.entries q 0) e.page (e.frame + 1)) order (e.page ∷ filter (λ y. not (nat_eq q y)) v.order) front in
     record {
       view = view ∙ applied_at v e (Some q) is;
-      table = subst IsTable (sym view) (lawful_table v e (Some q) h l is);
+      table = subst IsRecencyTable (sym view) (lawful_table v e (Some q) h l is);
     }
 
-pub applied_none : (v : RecencyView) (e : Planned) (order : List ℕ) → IsTable v → IsLawfulEntry v e → e.victim ≡ None
+pub applied_none : (v : RecencyView) (e : Planned) (order : List ℕ) → IsRecencyTable v → IsLawfulEntry v e → e.victim ≡ None
     → order ≡ e.page ∷ v.order → IsApplied v e (slice_set v.entries e.page (e.frame + 1)) order
 applied_none v e order h l is keys =
     let view = same_view v (slice_set v.entries e.page (e.frame + 1)) order (e.page ∷ v.order) keys in
     record {
       view = view ∙ applied_at v e None is;
-      table = subst IsTable (sym view) (lawful_table v e None h l is);
+      table = subst IsRecencyTable (sym view) (lawful_table v e None h l is);
     }
 
-pub free_some : (v : RecencyView) (e : Planned) (q : ℕ) (free : List ℕ) → IsTable v → IsLawfulEntry v e → e.victim ≡ Some q
+pub free_some : (v : RecencyView) (e : Planned) (q : ℕ) (free : List ℕ) → IsRecencyTable v → IsLawfulEntry v e → e.victim ≡ Some q
     → ((f : ℕ) → is_in free f ≡ (nat_lt f v.frames && not (is_held v.entries f)))
     → (f : ℕ) → is_in free f ≡ (nat_lt f v.frames && not (is_held (slice_set (slice_set v.entries q 0) e.page (e.frame + 1)) f))
 free_some v e q free h l is was f =
@@ -313,7 +313,7 @@ moved true true c = refl
 moved true false c = refl
 moved false b c = refl
 
-pub free_none : (v : RecencyView) (e : Planned) (free left : List ℕ) → IsTable v → IsLawfulEntry v e → e.victim ≡ None
+pub free_none : (v : RecencyView) (e : Planned) (free left : List ℕ) → IsRecencyTable v → IsLawfulEntry v e → e.victim ≡ None
     → ((f : ℕ) → is_in free f ≡ (nat_lt f v.frames && not (is_held v.entries f))) → ((f : ℕ) → is_in left f ≡ (is_in free f && not (nat_eq e.frame f)))
     → (f : ℕ) → is_in left f ≡ (nat_lt f v.frames && not (is_held (slice_set v.entries e.page (e.frame + 1)) f))
 free_none v e free left h l is was now f =
@@ -322,7 +322,7 @@ free_none v e free left h l is was now f =
     ∙ ap (λ (b : Bool). nat_lt f v.frames && not b) (sym (held_more v e.page e.frame _ l.unmapped (lawful_after v e None h l is) f))
 
 -- an entry that was lawful still is after another, whose page and frame are not its own
-lawful_still : (v : RecencyView) (e d : Planned) (new : List ℕ) → IsAfter v.entries e.victim e.page e.frame new → IsTable v → IsLawfulEntry v e
+lawful_still : (v : RecencyView) (e d : Planned) (new : List ℕ) → IsAfter v.entries e.victim e.page e.frame new → IsRecencyTable v → IsLawfulEntry v e
     → IsLawfulEntry v d
     → d.page ≢ e.page → d.frame ≢ e.frame → IsLawfulEntry (after v e.victim e.page new) d
 lawful_still v e d new is_after h l m pages frames = record {
@@ -350,12 +350,12 @@ lawful_still v e d new is_after h l m pages frames = record {
     test false other true is = absurd (let n = is_after.unmapped p is in omega arith)
     test false other false is = sym (is_after.other p (λ same. false≢true (sym other ∙ ap (nat_eq p) (sym same) ∙ self_eq p)) is) ∙ at
 
-  places : (o : Option ℕ) → MatchOption o (IsFree v.entries d.frame) (IsVictim v d.frame)
-      → MatchOption o (IsFree new d.frame) (IsVictim (after v e.victim e.page new) d.frame)
+  places : (o : Option ℕ) → MatchOption o (IsFreePage v.entries d.frame) (IsVictim v d.frame)
+      → MatchOption o (IsFreePage new d.frame) (IsVictim (after v e.victim e.page new) d.frame)
   places None free = λ p at. free p (back p at)
   places (Some q) held = record { unpinned = held.unpinned; held = forth q held.held }
 
-pub still_lawful : (v : RecencyView) (e d : Planned) → IsTable v → IsLawfulEntry v e → IsLawfulEntry v d → d.page ≢ e.page → d.frame ≢ e.frame
+pub still_lawful : (v : RecencyView) (e d : Planned) → IsRecencyTable v → IsLawfulEntry v e → IsLawfulEntry v d → d.page ≢ e.page → d.frame ≢ e.frame
     → IsLawfulEntry (applied v e) d
 unfolding applied
 still_lawful v e d h l m pages frames = lawful_still v e d _ (lawful_after v e e.victim h l refl) h l m pages frames
@@ -383,9 +383,9 @@ victim_not : (reads : List Planned) (p : ℕ) → ((e : Planned) → Contains re
 victim_not reads p h = list_any_none (λ e. is_page p e.victim) reads (λ k d inside. h (get_or reads k d) (k, inside, get_or_same reads k d inside))
 
 settled_after : (old now : RecencyView) (reads : List Planned) (e : Planned) (new : List ℕ) → IsAfter now.entries e.victim e.page e.frame new
-    → IsTable now → IsSettled old reads now → IsLawfulEntry old e → IsLawfulEntry now e
-    → ((r : Planned) → Contains reads r → IsLawfulEntry old r) → IsTable old → ((r : Planned) → Contains reads r → r.frame ≢ e.frame)
-    → IsSettled old (e ∷ reads) (after now e.victim e.page new)
+    → IsRecencyTable now → IsSettledByReads old reads now → IsLawfulEntry old e → IsLawfulEntry now e
+    → ((r : Planned) → Contains reads r → IsLawfulEntry old r) → IsRecencyTable old → ((r : Planned) → Contains reads r → r.frame ≢ e.frame)
+    → IsSettledByReads old (e ∷ reads) (after now e.victim e.page new)
 unfolding settled_order
 settled_after old now reads e new a h s first l laws begun frames = record {
   shape = s.shape;
@@ -470,16 +470,16 @@ settled_after old now reads e new a h s first l laws begun frames = record {
       ∙ ap (λ (l : List ℕ). map (λ r. r.page) reads ++ l) (rest_kept e.victim refl))
 
 -- the table so far, and one entry more, which was lawful at first and is now
-pub settled_more : (old now : RecencyView) (reads : List Planned) (e : Planned) → IsTable now → IsSettled old reads now → IsLawfulEntry old e
+pub settled_more : (old now : RecencyView) (reads : List Planned) (e : Planned) → IsRecencyTable now → IsSettledByReads old reads now → IsLawfulEntry old e
     → IsLawfulEntry now e
-    → ((r : Planned) → Contains reads r → IsLawfulEntry old r) → IsTable old → ((r : Planned) → Contains reads r → r.frame ≢ e.frame)
-    → IsSettled old (e ∷ reads) (applied now e)
+    → ((r : Planned) → Contains reads r → IsLawfulEntry old r) → IsRecencyTable old → ((r : Planned) → Contains reads r → r.frame ≢ e.frame)
+    → IsSettledByReads old (e ∷ reads) (applied now e)
 unfolding applied
 settled_more old now reads e h s first l laws begun frames = settled_after old now reads e _ (lawful_after now e e.victim h l refl) h s first l laws
     begun frames
 
 -- nothing was applied yet
-pub settled_none : (old : RecencyView) → IsSettled old [] old
+pub settled_none : (old : RecencyView) → IsSettledByReads old [] old
 unfolding settled_order
 settled_none old = record {
   shape = refl;
@@ -490,7 +490,7 @@ settled_none old = record {
 }
 
 pub record IsStep (old new : RecencyView) (batch : List Planned) (lost : List Bool) (j : ℕ) : Type 0 where
-  pub settled : IsSettled old (read_entries (drop j batch) (drop j lost)) new
+  pub settled : IsSettledByReads old (read_entries (drop j batch) (drop j lost)) new
   pub lawful : (i : ℕ) (d : Planned) → i < j → IsLawfulEntry new (get_or batch i d)
 
 after_place : (batch : List Planned) (lost : List Bool) (j : ℕ) (r : Planned) → Contains (read_entries (drop (suc j) batch) (drop (suc j) lost)) r
@@ -502,8 +502,8 @@ after_place batch lost j r there =
 
 pub settle_step : (old now new : RecencyView) (batch : List Planned) (lost : List Bool) (j : ℕ) (d e : Planned) (b : Bool) → j < length batch
     → length lost ≡ length batch
-    → b ≡ get_or lost j b → e ≡ get_or batch j e → IsLawful old batch → IsTable old → IsTable now
-    → IsSettled old (read_entries (drop (suc j) batch) (drop (suc j) lost)) now → ((i : ℕ) (d : Planned) → i < suc j → IsLawfulEntry now (get_or batch i d))
+    → b ≡ get_or lost j b → e ≡ get_or batch j e → IsLawfulBatch old batch → IsRecencyTable old → IsRecencyTable now
+    → IsSettledByReads old (read_entries (drop (suc j) batch) (drop (suc j) lost)) now → ((i : ℕ) (d : Planned) → i < suc j → IsLawfulEntry now (get_or batch i d))
     → new ≡ cond b now (applied now e) → IsStep old new batch lost j
 settle_step old now new batch lost j d e true inside lengths is at laws begun h s l step = record {
   settled =
@@ -534,7 +534,7 @@ pub read_at : {X : Type 0} (xs : List X) (i : ℕ) (x : X) → slice_get xs i �
 read_at xs i x e = sym (get_or_from_slice_get xs i x x e)
 
 pub nothing_read : (old : RecencyView) (batch : List Planned) (lost : List Bool)
-    → IsSettled old (read_entries (drop (length batch) batch) (drop (length batch) lost)) old
+    → IsSettledByReads old (read_entries (drop (length batch) batch) (drop (length batch) lost)) old
 nothing_read old batch lost = rw (drop-length batch) (settled_none old)
 
 -- what a page of the order is
@@ -549,13 +549,13 @@ first_of_and false c h = absurd (false≢true h)
 pub positive : (n : ℕ) → nat_lt 0 n ≡ true → 0 < n
 positive n h = grind (arith, nat_tests)
 
-pub order_facts : (v : RecencyView) (k d : ℕ) → IsTable v → k < length v.order → IsOrdered v (get_or v.order k d)
+pub order_facts : (v : RecencyView) (k d : ℕ) → IsRecencyTable v → k < length v.order → IsOrdered v (get_or v.order k d)
 order_facts v k d h below =
     let x : ℕ = get_or v.order k d in
     let there : is_in v.order (get_or v.order k d) ≡ true = list_any_at (nat_eq (get_or v.order k d)) v.order k d below (self_eq (get_or v.order k d)) in
     let loose : is_loose v (get_or v.order k d) ≡ true = sym (h.in_order (get_or v.order k d)) ∙ there in
     let mapped : 0 < slice_index v.entries (get_or v.order k d) = positive (slice_index v.entries (get_or v.order k d))
-    (first_of_and (is_mapped v.entries (get_or v.order k d)) (not (is_pinned v (get_or v.order k d))) loose) in
+    (first_of_and (has_frame v.entries (get_or v.order k d)) (not (is_pinned v (get_or v.order k d))) loose) in
     record {
       inside = elim (cases_lt (get_or v.order k d) (pages_of v.shape)) [
         | inl below ↦ below

@@ -12,9 +12,9 @@ use Rattle.vt_plan.specs.Pages.{level_of, ancestors_of, pages_of, IsWithinLimits
 use Rattle.vt_plan.specs.Wants.{pages_wanted}
 use Rattle.vt_plan.specs.Orders.{line_pages, put_first}
 use Rattle.vt_plan.specs.PageLists.{is_in}
-use Rattle.vt_plan.specs.Views.{RecencyView, IsTable, is_loose, touched, touched_pages}
-use Rattle.vt_evict.specs.Batches.{IsLawful, IsSettled, is_victim, read_entries, settled_order}
-use Rattle.vt_evict.specs.Stamps.{Stamp, is_less, Stamps, Pass, stamp_at, IsReadAt, IsByEntry, IsByWant, IsOwn, IsGreatest, AreAfter, AreBefore, IsAbove, IsByStamps}
+use Rattle.vt_plan.specs.Views.{RecencyView, IsRecencyTable, is_loose, touched, touched_pages}
+use Rattle.vt_evict.specs.Batches.{IsLawfulBatch, IsSettledByReads, is_victim, read_entries, settled_order}
+use Rattle.vt_evict.specs.Stamps.{Stamp, is_less, Stamps, StampedPass, stamp_at, IsReadAt, IsByEntry, IsByWant, IsOwnStamp, IsGreatest, AreAfter, AreBefore, IsAbove, IsByStamps}
 use Rattle.vt_plan.proofs.ListLemmas.{is_in-filter}
 use Rattle.vt_evict.proofs.SettleLemmas.{order_facts}
 use Rattle.vt_evict.proofs.PairLemmas.{pairs_append, all_in, not_true, first_inside, first_before}
@@ -23,29 +23,29 @@ use Rattle.vt_evict.proofs.StampOrder.{less_pass, less_place, less_level, pass_i
 use Rattle.vt_evict.proofs.ReadPlaces.{IsReadBefore, pages_read, reads_ordered, HasPlace, reads_at}
 
 -- the pages that a pass touches
-abbrev pub pages_touched : Pass → List ℕ
+abbrev pub pages_touched : StampedPass → List ℕ
 pages_touched x = touched_pages x.after x.wants
 
 -- the place of the first wanted page whose line has a page
-abbrev pub first_place : Pass → ℕ → ℕ
+abbrev pub first_place : StampedPass → ℕ → ℕ
 first_place x p = first_of x.after.shape (pages_wanted x.wants) p
 
 -- the stamp of a page by the entry at a place, and by the wanted page at a place
-abbrev pub by_entry : Pass → ℕ → ℕ → Stamp
+abbrev pub by_entry : StampedPass → ℕ → ℕ → Stamp
 by_entry x p j = stamp_at x p (length x.batch - 1 - j)
 
-abbrev pub by_want : Pass → ℕ → ℕ → Stamp
+abbrev pub by_want : StampedPass → ℕ → ℕ → Stamp
 by_want x p i = stamp_at x p (length x.batch + length x.wants - 1 - i)
 
 -- whether a page is no victim, and whether it is not touched
-abbrev is_left : Pass → ℕ → Bool
+abbrev is_left : StampedPass → ℕ → Bool
 is_left x p = not (is_victim (read_entries x.batch x.lost) p)
 
-abbrev is_behind : Pass → ℕ → Bool
+abbrev is_behind : StampedPass → ℕ → Bool
 is_behind x p = not (is_in (pages_touched x) p)
 
 -- a page that was not read
-abbrev IsUnread : Pass → ℕ → Type 0
+abbrev IsUnread : StampedPass → ℕ → Type 0
 IsUnread x p = (j : ℕ) → IsReadAt x.batch x.lost j p → ⊥
 
 pub and_parts : (b c : Bool) → (b && c) ≡ true → (b ≡ true) × (c ≡ true)
@@ -54,19 +54,19 @@ and_parts true false h = absurd (false≢true h)
 and_parts false c h = absurd (false≢true h)
 
 -- the stamp of a page after a pass is its greatest
-at_page : (old new : Stamps) (x : Pass) (p : ℕ) (a : Stamp) → AreAfter old x new → new p ≡ Some a → IsGreatest (IsOwn old x p) (Some a)
-at_page old new x p a h e = subst (IsGreatest (IsOwn old x p)) e (h p)
+at_page : (old new : Stamps) (x : StampedPass) (p : ℕ) (a : Stamp) → AreAfter old x new → new p ≡ Some a → IsGreatest (IsOwnStamp old x p) (Some a)
+at_page old new x p a h e = subst (IsGreatest (IsOwnStamp old x p)) e (h p)
 
 -- the stamps after a pass are of that pass or of earlier ones
-pub still_before : (old new : Stamps) (x : Pass) → AreAfter old x new → AreBefore old x.number → AreBefore new (x.number + 1)
+pub still_before : (old new : Stamps) (x : StampedPass) → AreAfter old x new → AreBefore old x.number → AreBefore new (x.number + 1)
 still_before old new x h before p a e = cases (at_page old new x p a h e).0 where
-  cases : IsOwn old x p a → a.pass < x.number + 1
+  cases : IsOwnStamp old x p a → a.pass < x.number + 1
   cases (inl had) = let b = before p a had in omega (arith, b)
   cases (inr (inl entry)) = let q : a.pass ≡ x.number = pass_is entry.stamp in omega arith
   cases (inr (inr want)) = let q : a.pass ≡ x.number = pass_is want.stamp in omega arith
 
 -- a page that a wanted list stamps is touched
-want_touched : (x : Pass) (p : ℕ) (t : Stamp) → IsByWant x p t → is_in (pages_touched x) p ≡ true
+want_touched : (x : StampedPass) (p : ℕ) (t : Stamp) → IsByWant x p t → is_in (pages_touched x) p ≡ true
 unfolding touched_pages
 want_touched x p t w =
     is_in-filter (is_loose x.after) (line_pages x.after.shape (pages_wanted x.wants)) p
@@ -77,12 +77,12 @@ want_touched x p t w =
     ) refl
 
 -- a touched page is loose, and the first wanted page whose line has it is in the list
-record IsTouched (x : Pass) (p : ℕ) : Type 0 where
+record IsTouched (x : StampedPass) (p : ℕ) : Type 0 where
   loose : is_loose x.after p ≡ true
   inside : first_place x p < length (pages_wanted x.wants)
   below : first_place x p < length x.wants
 
-touched_facts : (x : Pass) (p : ℕ) → is_in (pages_touched x) p ≡ true → IsTouched x p
+touched_facts : (x : StampedPass) (p : ℕ) → is_in (pages_touched x) p ≡ true → IsTouched x p
 unfolding touched_pages
 touched_facts x p e =
     let both = and_parts (is_in (line_pages x.after.shape (pages_wanted x.wants)) p) (is_loose x.after p)
@@ -93,7 +93,7 @@ touched_facts x p e =
     record { loose = both.1; inside = inside; below = subst (λ (n : ℕ). first_place x p < n) (length-map x.wants (λ w. w.page)) inside }
 
 -- a touched page gets the stamp of the first wanted page whose line has it
-touched_want : (x : Pass) (p : ℕ) → is_in (pages_touched x) p ≡ true
+touched_want : (x : StampedPass) (p : ℕ) → is_in (pages_touched x) p ≡ true
     → IsByWant x p (by_want x p (first_place x p))
 touched_want x p e =
     let facts = touched_facts x p e in
@@ -105,17 +105,17 @@ touched_want x p e =
     }
 
 -- what a pass begins with, and the stamps after it
-pub record IsGiven (v : RecencyView) (old new : Stamps) (x : Pass) : Type 0 where
-  pub table : IsTable v
+pub record IsGiven (v : RecencyView) (old new : Stamps) (x : StampedPass) : Type 0 where
+  pub table : IsRecencyTable v
   pub order : IsByStamps old v.order
   pub before : AreBefore old x.number
-  pub lawful : IsLawful v x.batch
-  pub settled : IsSettled v (read_entries x.batch x.lost) x.after
+  pub lawful : IsLawfulBatch v x.batch
+  pub settled : IsSettledByReads v (read_entries x.batch x.lost) x.after
   pub inside : All (λ w. w.page < pages_of v.shape) x.wants
   pub after : AreAfter old x new
 
 -- the stamp of a touched page
-touched_stamp : (v : RecencyView) (old new : Stamps) (x : Pass) (p : ℕ) (a : Stamp) → IsGiven v old new x → is_in (pages_touched x) p ≡ true → new p ≡ Some a
+touched_stamp : (v : RecencyView) (old new : Stamps) (x : StampedPass) (p : ℕ) (a : Stamp) → IsGiven v old new x → is_in (pages_touched x) p ≡ true → new p ≡ Some a
     → a ≡ by_want x p (first_place x p)
 touched_stamp v old new x p a g there e = cases greatest.0 where
   first : ℕ
@@ -124,7 +124,7 @@ touched_stamp v old new x p a g there e = cases greatest.0 where
   want : IsByWant x p (by_want x p first)
   want = touched_want x p there
 
-  greatest : IsGreatest (IsOwn old x p) (Some a)
+  greatest : IsGreatest (IsOwnStamp old x p) (Some a)
   greatest = at_page old new x p a g.after e
 
   not_less : is_less a (by_want x p first) ≡ true → ⊥
@@ -136,7 +136,7 @@ touched_stamp v old new x p a g there e = cases greatest.0 where
   first_below : first < length x.wants
   first_below = (touched_facts x p there).below
 
-  cases : IsOwn old x p a → a ≡ by_want x p first
+  cases : IsOwnStamp old x p a → a ≡ by_want x p first
   cases (inl had) = absurd (not_less (less_pass a (by_want x p first) (g.before p a had)))
   cases (inr (inl entry)) =
       let place : a.place ≡ length x.batch - 1 - entry.at = place_is entry.stamp in
@@ -153,16 +153,16 @@ touched_stamp v old new x p a g there e = cases greatest.0 where
     among (inr same) = let at : other.at ≡ first = omega (arith, least) in other.stamp ∙ ap (λ (i : ℕ). by_want x p i) at
 
 -- an own stamp of a page that is not touched is old, or by an entry
-own_untouched : (old : Stamps) (x : Pass) (p : ℕ) (a : Stamp) → is_in (pages_touched x) p ≡ false → IsOwn old x p a → (old p ≡ Some a) ⊎ IsByEntry x p a
+own_untouched : (old : Stamps) (x : StampedPass) (p : ℕ) (a : Stamp) → is_in (pages_touched x) p ≡ false → IsOwnStamp old x p a → (old p ≡ Some a) ⊎ IsByEntry x p a
 own_untouched old x p a not_in (inl had) = inl had
 own_untouched old x p a not_in (inr (inl entry)) = inr entry
 own_untouched old x p a not_in (inr (inr want)) = absurd (false≢true (sym not_in ∙ want_touched x p a want))
 
 -- the stamp of a page that was read and is not touched
-read_stamp : (v : RecencyView) (old new : Stamps) (x : Pass) (p j : ℕ) (a : Stamp) → IsGiven v old new x → is_in (pages_touched x) p ≡ false
+read_stamp : (v : RecencyView) (old new : Stamps) (x : StampedPass) (p j : ℕ) (a : Stamp) → IsGiven v old new x → is_in (pages_touched x) p ≡ false
     → IsReadAt x.batch x.lost j p → new p ≡ Some a → IsByEntry x p a
 read_stamp v old new x p j a g not_in read e = cases (own_untouched old x p a not_in greatest.0) where
-  greatest : IsGreatest (IsOwn old x p) (Some a)
+  greatest : IsGreatest (IsOwnStamp old x p) (Some a)
   greatest = at_page old new x p a g.after e
 
   given : IsByEntry x p (by_entry x p j)
@@ -174,7 +174,7 @@ read_stamp v old new x p j a g not_in read e = cases (own_untouched old x p a no
   cases (inr entry) = entry
 
 -- no entry has a page of the order before
-not_read : (v : RecencyView) (old new : Stamps) (x : Pass) → IsGiven v old new x → All (IsUnread x) v.order
+not_read : (v : RecencyView) (old new : Stamps) (x : StampedPass) → IsGiven v old new x → All (IsUnread x) v.order
 not_read v old new x g = λ k d inside j read.
     let entry = g.lawful.each j (record { page = 0; frame = 0; victim = None }) read.inside in
     let held = (order_facts v k d g.table inside).mapped in
@@ -183,21 +183,21 @@ not_read v old new x g = λ k d inside j read.
     omega (arith, held, unmapped)
 
 -- the stamp of a page that is neither read nor touched
-old_stamp : (v : RecencyView) (old new : Stamps) (x : Pass) (p : ℕ) (a : Stamp) → IsGiven v old new x → is_in (pages_touched x) p ≡ false
+old_stamp : (v : RecencyView) (old new : Stamps) (x : StampedPass) (p : ℕ) (a : Stamp) → IsGiven v old new x → is_in (pages_touched x) p ≡ false
     → IsUnread x p → new p ≡ Some a → old p ≡ Some a
 old_stamp v old new x p a g not_in unread e = cases (own_untouched old x p a not_in (at_page old new x p a g.after e).0) where
   cases : (old p ≡ Some a) ⊎ IsByEntry x p a → old p ≡ Some a
   cases (inl had) = had
   cases (inr entry) = absurd (unread entry.at entry.read)
 
-touched_ordered : (x : Pass) → IsWithinLimits x.after.shape → All (λ p. p < pages_of x.after.shape) (pages_wanted x.wants)
+touched_ordered : (x : StampedPass) → IsWithinLimits x.after.shape → All (λ p. p < pages_of x.after.shape) (pages_wanted x.wants)
     → AllPairs (IsEarlier x.after.shape (first_place x)) (pages_touched x)
 unfolding touched_pages
 touched_ordered x limits chain =
     AllPairs-filter (IsEarlier x.after.shape (first_place x)) (is_loose x.after)
     (line_pages x.after.shape (pages_wanted x.wants)) (lines_ordered x.after.shape (pages_wanted x.wants) limits chain)
 
-touched_by_stamps : (v : RecencyView) (old new : Stamps) (x : Pass) → IsGiven v old new x → AllPairs (IsAbove new) (pages_touched x)
+touched_by_stamps : (v : RecencyView) (old new : Stamps) (x : StampedPass) → IsGiven v old new x → AllPairs (IsAbove new) (pages_touched x)
 touched_by_stamps v old new x g = λ i j d lt within a b ea eb.
     above (get_or (pages_touched x) i d) (get_or (pages_touched x) j d) a b
     (all_in (pages_touched x) i d (omega arith)) (all_in (pages_touched x) j d within) (earlier i j d lt within) ea eb where
@@ -224,10 +224,10 @@ touched_by_stamps v old new x g = λ i j d lt within a b ea eb.
                 (ap (λ (i : ℕ). length x.batch + length x.wants - 1 - i) (sym same.0)) same.1
 
 -- a page has a greater stamp than another, where neither is touched
-abbrev IsAboveUntouched : Pass → Stamps → ℕ → ℕ → Type 0
+abbrev IsAboveUntouched : StampedPass → Stamps → ℕ → ℕ → Type 0
 IsAboveUntouched x new p q = is_in (pages_touched x) p ≡ false → is_in (pages_touched x) q ≡ false → IsAbove new p q
 
-read_above_read : (v : RecencyView) (old new : Stamps) (x : Pass) (p q : ℕ) → IsGiven v old new x → IsReadBefore x.batch x.lost p q
+read_above_read : (v : RecencyView) (old new : Stamps) (x : StampedPass) (p q : ℕ) → IsGiven v old new x → IsReadBefore x.batch x.lost p q
     → HasPlace x.batch x.lost p → HasPlace x.batch x.lost q → IsAboveUntouched x new p q
 read_above_read v old new x p q g before hp hq np nq a b ea eb =
     let one = read_stamp v old new x p hp.0 a g np hp.1 ea in
@@ -237,7 +237,7 @@ read_above_read v old new x p q g before hp hq np nq a b ea eb =
     let pb : b.place ≡ length x.batch - 1 - two.at = place_is two.stamp in
     less_place b a (pass_is two.stamp ∙ sym (pass_is one.stamp)) (omega (arith, two.read.inside))
 
-read_above_old : (v : RecencyView) (old new : Stamps) (x : Pass) (p q : ℕ) → IsGiven v old new x → HasPlace x.batch x.lost p
+read_above_old : (v : RecencyView) (old new : Stamps) (x : StampedPass) (p q : ℕ) → IsGiven v old new x → HasPlace x.batch x.lost p
     → IsUnread x q → IsAboveUntouched x new p q
 read_above_old v old new x p q g hp unread np nq a b ea eb =
     let one = read_stamp v old new x p hp.0 a g np hp.1 ea in
@@ -245,11 +245,11 @@ read_above_old v old new x p q g hp unread np nq a b ea eb =
     let pb : b.pass < x.number = g.before q b (old_stamp v old new x q b g nq unread eb) in
     less_pass b a (omega arith)
 
-old_above_old : (v : RecencyView) (old new : Stamps) (x : Pass) (p q : ℕ) → IsGiven v old new x → IsUnread x p
+old_above_old : (v : RecencyView) (old new : Stamps) (x : StampedPass) (p q : ℕ) → IsGiven v old new x → IsUnread x p
     → IsUnread x q → IsAbove old p q → IsAboveUntouched x new p q
 old_above_old v old new x p q g up uq above np nq a b ea eb = above a b (old_stamp v old new x p a g np up ea) (old_stamp v old new x q b g nq uq eb)
 
-touched_above : (v : RecencyView) (old new : Stamps) (x : Pass) (p q : ℕ) → IsGiven v old new x → is_in (pages_touched x) p ≡ true
+touched_above : (v : RecencyView) (old new : Stamps) (x : StampedPass) (p q : ℕ) → IsGiven v old new x → is_in (pages_touched x) p ≡ true
     → is_in (pages_touched x) q ≡ false → IsAbove new p q
 touched_above v old new x p q g hp nq a b ea eb = cases (own_untouched old x q b nq (at_page old new x q b g.after eb).0) where
   is : a ≡ by_want x p (first_place x p)
@@ -269,10 +269,10 @@ touched_above v old new x p q g hp nq a b ea eb = cases (own_untouched old x q b
       less_place b a (pass_is entry.stamp ∙ sym (pass_is is)) (omega (arith, entry.read.inside, inside))
 
 -- the pages of the order before that are no victims
-abbrev pages_left : RecencyView → Pass → List ℕ
+abbrev pages_left : RecencyView → StampedPass → List ℕ
 pages_left v x = filter (is_left x) v.order
 
-rest_by_stamps : (v : RecencyView) (old new : Stamps) (x : Pass) → IsGiven v old new x
+rest_by_stamps : (v : RecencyView) (old new : Stamps) (x : StampedPass) → IsGiven v old new x
     → AllPairs (IsAboveUntouched x new) (pages_read x.batch x.lost ++ pages_left v x)
 rest_by_stamps v old new x g = pairs_append (IsAboveUntouched x new) (pages_read x.batch x.lost) (pages_left v x) reads olds between where
   places : All (HasPlace x.batch x.lost) (pages_read x.batch x.lost)
@@ -295,10 +295,10 @@ rest_by_stamps v old new x g = pairs_append (IsAboveUntouched x new) (pages_read
       (λ m e within. read_above_old v old new x (get_or (pages_read x.batch x.lost) k d) (get_or v.order m e) g (places k d inside) (unread m e within))
 
 -- the pages behind the touched ones
-abbrev pages_behind : RecencyView → Pass → List ℕ
+abbrev pages_behind : RecencyView → StampedPass → List ℕ
 pages_behind v x = filter (is_behind x) (pages_read x.batch x.lost ++ pages_left v x)
 
-order_falls : (v : RecencyView) (old new : Stamps) (x : Pass) → IsGiven v old new x → AllPairs (IsAbove new) (pages_touched x ++ pages_behind v x)
+order_falls : (v : RecencyView) (old new : Stamps) (x : StampedPass) → IsGiven v old new x → AllPairs (IsAbove new) (pages_touched x ++ pages_behind v x)
 order_falls v old new x g = pairs_append (IsAbove new) (pages_touched x) (pages_behind v x) (touched_by_stamps v old new x g) behind between where
   passed : All (λ p. is_behind x p ≡ true) (pages_behind v x)
   passed = filter_passes (is_behind x) (pages_read x.batch x.lost ++ pages_left v x)
@@ -313,10 +313,10 @@ order_falls v old new x g = pairs_append (IsAbove new) (pages_touched x) (pages_
       touched_above v old new x (get_or (pages_touched x) k d) (get_or (pages_behind v x) m e) g
       (all_in (pages_touched x) k d inside) (not_true _ (passed m e within))
 
-order_stamped : (v : RecencyView) (old new : Stamps) (x : Pass) → IsGiven v old new x → All (λ p. IsSome (new p)) (pages_touched x ++ pages_behind v x)
+order_stamped : (v : RecencyView) (old new : Stamps) (x : StampedPass) → IsGiven v old new x → All (λ p. IsSome (new p)) (pages_touched x ++ pages_behind v x)
 order_stamped v old new x g =
     All-append (λ p. IsSome (new p)) (pages_touched x) (pages_behind v x)
-    (λ k d inside. some_of (IsOwn old x (get_or (pages_touched x) k d)) (new (get_or (pages_touched x) k d)) _ (g.after (get_or (pages_touched x) k d))
+    (λ k d inside. some_of (IsOwnStamp old x (get_or (pages_touched x) k d)) (new (get_or (pages_touched x) k d)) _ (g.after (get_or (pages_touched x) k d))
     (inr (inr (touched_want x (get_or (pages_touched x) k d) (all_in (pages_touched x) k d inside)))))
     (All-filter (is_behind x) (λ p. IsSome (new p)) (pages_read x.batch x.lost ++ pages_left v x)
     (All-append (λ p. IsSome (new p)) (pages_read x.batch x.lost) (pages_left v x)
@@ -324,13 +324,13 @@ order_stamped v old new x g =
     (All-filter (is_left x) (λ p. IsSome (new p)) v.order
     (All-weaker (λ p. IsSome (old p)) (λ p. IsSome (new p)) had v.order g.order.stamped)))) where
       read : (p : ℕ) → HasPlace x.batch x.lost p → IsSome (new p)
-      read p h = some_of (IsOwn old x p) (new p) (by_entry x p h.0) (g.after p) (inr (inl (record { at = h.0; read = h.1; stamp = refl })))
+      read p h = some_of (IsOwnStamp old x p) (new p) (by_entry x p h.0) (g.after p) (inr (inl (record { at = h.0; read = h.1; stamp = refl })))
 
       had : (p : ℕ) → IsSome (old p) → IsSome (new p)
-      had p h = let t = value_of (old p) h in some_of (IsOwn old x p) (new p) t.0 (g.after p) (inl t.1)
+      had p h = let t = value_of (old p) h in some_of (IsOwnStamp old x p) (new p) t.0 (g.after p) (inl t.1)
 
 -- the order after a pass is by falling stamps
-pub order_by_stamps : (v : RecencyView) (old new : Stamps) (x : Pass) → IsGiven v old new x → IsByStamps new (touched x.after x.wants).order
+pub order_by_stamps : (v : RecencyView) (old new : Stamps) (x : StampedPass) → IsGiven v old new x → IsByStamps new (touched x.after x.wants).order
 unfolding put_first settled_order
 order_by_stamps v old new x g =
     subst (λ (l : List ℕ). IsByStamps new (pages_touched x ++ filter (is_behind x) l)) (sym g.settled.order)

@@ -15,9 +15,9 @@ use Rattle.vt_plan.proofs.OrderedLists.{ordered_are_one}
 use Rattle.vt_plan.specs.declared.batches.Planned.{Planned}
 use Rattle.vt_plan.specs.Orders.{line_pages}
 use Rattle.vt_plan.specs.PageLists.{is_in}
-use Rattle.vt_plan.specs.Views.{RecencyView, IsTable, is_loose, first_view}
+use Rattle.vt_plan.specs.Views.{RecencyView, IsRecencyTable, is_loose, first_view}
 use Rattle.vt_plan.specs.Plans.{candidates}
-use Rattle.vt_evict.specs.Stamps.{Stamp, is_less, Stamps, no_stamps, Pass, IsByEntry, IsByWant, IsOwn, IsGreatest, AreAfter, AreBefore, IsAbove, IsByStamps}
+use Rattle.vt_evict.specs.Stamps.{Stamp, is_less, Stamps, no_stamps, StampedPass, IsByEntry, IsByWant, IsOwnStamp, IsGreatest, AreAfter, AreBefore, IsAbove, IsByStamps}
 use Rattle.vt_evict.proofs.ListLemmas.{is_in-reverse}
 use Rattle.vt_plan.proofs.ListLemmas.{nat_eq_true, is_in-filter}
 use Rattle.vt_evict.proofs.SettleLemmas.{self_eq}
@@ -33,8 +33,8 @@ greatest_one Own (Some a) None g h = absurd (h a g.0)
 greatest_one Own (Some a) (Some b) g h = ap Some (neither_less a b (g.1 b h.0) (h.1 a g.0))
 
 -- there are not two stamps after a pass
-pub after_one : (old a b : Stamps) (x : Pass) → AreAfter old x a → AreAfter old x b → a ≡ b
-after_one old a b x g h = λ i p. greatest_one (IsOwn old x p) (a p) (b p) (g p) (h p) i
+pub after_one : (old a b : Stamps) (x : StampedPass) → AreAfter old x a → AreAfter old x b → a ≡ b
+after_one old a b x g h = λ i p. greatest_one (IsOwnStamp old x p) (a p) (b p) (g p) (h p) i
 
 greatest_like : (A B : Stamp → Type 0) (o : Option Stamp) → ((u : Stamp) → A u → B u) → ((u : Stamp) → B u → A u) → IsGreatest A o → IsGreatest B o
 greatest_like A B None to back g = λ t b. g t (back t b)
@@ -110,14 +110,14 @@ abbrev no_entry : Planned
 no_entry = record { page = 0; frame = 0; victim = None }
 
 -- whether the entry at a place has a page, and was read
-is_read_at : Pass → ℕ → ℕ → Bool
+is_read_at : StampedPass → ℕ → ℕ → Bool
 is_read_at x p j = not (slice_index_or x.lost j true) && nat_eq (slice_index_or x.batch j no_entry).page p
 
 -- whether a page gets a stamp by the wanted page at a place
-is_wanted_at : Pass → ℕ → ℕ → Bool
+is_wanted_at : StampedPass → ℕ → ℕ → Bool
 is_wanted_at x p i = is_in (ancestors_of x.after.shape (slice_index (pages_wanted x.wants) i)) p && is_loose x.after p
 
-entry_to : (x : Pass) (p : ℕ) (u : Stamp) → IsBelow (is_read_at x p) (by_entry x p) (length x.batch) u → IsByEntry x p u
+entry_to : (x : StampedPass) (p : ℕ) (u : Stamp) → IsBelow (is_read_at x p) (by_entry x p) (length x.batch) u → IsByEntry x p u
 unfolding is_read_at
 entry_to x p u b =
     let both = and_parts (not (slice_index_or x.lost b.at true)) (nat_eq (slice_index_or x.batch b.at no_entry).page p) b.passes in
@@ -132,7 +132,7 @@ entry_to x p u b =
       stamp = b.is;
     }
 
-entry_back : (x : Pass) (p : ℕ) (u : Stamp) → IsByEntry x p u → IsBelow (is_read_at x p) (by_entry x p) (length x.batch) u
+entry_back : (x : StampedPass) (p : ℕ) (u : Stamp) → IsByEntry x p u → IsBelow (is_read_at x p) (by_entry x p) (length x.batch) u
 unfolding is_read_at
 entry_back x p u e = record {
   at = e.at;
@@ -141,18 +141,18 @@ entry_back x p u e = record {
   is = e.stamp;
 }
 
-want_to : (x : Pass) (p : ℕ) (u : Stamp) → IsBelow (is_wanted_at x p) (by_want x p) (length (pages_wanted x.wants)) u → IsByWant x p u
+want_to : (x : StampedPass) (p : ℕ) (u : Stamp) → IsBelow (is_wanted_at x p) (by_want x p) (length (pages_wanted x.wants)) u → IsByWant x p u
 unfolding is_wanted_at
 want_to x p u b =
     let both = and_parts (is_in (ancestors_of x.after.shape (slice_index (pages_wanted x.wants) b.at)) p) (is_loose x.after p) b.passes in
     record { at = b.at; in_line = record { inside = b.below; in_line = both.0 }; loose = both.1; stamp = b.is }
 
-want_back : (x : Pass) (p : ℕ) (u : Stamp) → IsByWant x p u → IsBelow (is_wanted_at x p) (by_want x p) (length (pages_wanted x.wants)) u
+want_back : (x : StampedPass) (p : ℕ) (u : Stamp) → IsByWant x p u → IsBelow (is_wanted_at x p) (by_want x p) (length (pages_wanted x.wants)) u
 unfolding is_wanted_at
 want_back x p u w = record { at = w.at; below = w.in_line.inside; passes = rw (w.in_line.in_line, w.loose) refl; is = w.stamp }
 
-greatest_own : (old : Stamps) (x : Pass) (p : ℕ) → (o : Option Stamp) × IsGreatest (IsOwn old x p) o
-greatest_own old x p = (second.0, greatest_like (λ u. ((old p ≡ Some u) ⊎ Entry u) ⊎ Want u) (IsOwn old x p) second.0 to back second.1) where
+greatest_own : (old : Stamps) (x : StampedPass) (p : ℕ) → (o : Option Stamp) × IsGreatest (IsOwnStamp old x p) o
+greatest_own old x p = (second.0, greatest_like (λ u. ((old p ≡ Some u) ⊎ Entry u) ⊎ Want u) (IsOwnStamp old x p) second.0 to back second.1) where
   Entry : Stamp → Type 0
   Entry = IsBelow (is_read_at x p) (by_entry x p) (length x.batch)
 
@@ -165,18 +165,18 @@ greatest_own old x p = (second.0, greatest_like (λ u. ((old p ≡ Some u) ⊎ E
   second : (o : Option Stamp) × IsGreatest (λ u. ((old p ≡ Some u) ⊎ Entry u) ⊎ Want u) o
   second = greatest_below (λ u. (old p ≡ Some u) ⊎ Entry u) first.0 (is_wanted_at x p) (by_want x p) (length (pages_wanted x.wants)) first.1
 
-  to : (u : Stamp) → ((old p ≡ Some u) ⊎ Entry u) ⊎ Want u → IsOwn old x p u
+  to : (u : Stamp) → ((old p ≡ Some u) ⊎ Entry u) ⊎ Want u → IsOwnStamp old x p u
   to u (inl (inl had)) = inl had
   to u (inl (inr e)) = inr (inl (entry_to x p u e))
   to u (inr w) = inr (inr (want_to x p u w))
 
-  back : (u : Stamp) → IsOwn old x p u → ((old p ≡ Some u) ⊎ Entry u) ⊎ Want u
+  back : (u : Stamp) → IsOwnStamp old x p u → ((old p ≡ Some u) ⊎ Entry u) ⊎ Want u
   back u (inl had) = inl (inl had)
   back u (inr (inl e)) = inl (inr (entry_back x p u e))
   back u (inr (inr w)) = inr (want_back x p u w)
 
 -- there are stamps after each pass
-pub after_some : (old : Stamps) (x : Pass) → (new : Stamps) × AreAfter old x new
+pub after_some : (old : Stamps) (x : StampedPass) → (new : Stamps) × AreAfter old x new
 after_some old x = (λ p. (greatest_own old x p).0, λ p. (greatest_own old x p).1)
 
 -- at first no page has a stamp, and the order is empty
@@ -223,7 +223,7 @@ lines_wanted s [] p = refl
 lines_wanted s (w ∷ wants) p = ap (λ (b : Bool). is_in (ancestors_of s w.page) p || b) (lines_wanted s wants p)
 
 -- which pages are candidates
-pub candidates_are : (v : RecencyView) (wants : List Wanted) (p : ℕ) → IsTable v
+pub candidates_are : (v : RecencyView) (wants : List Wanted) (p : ℕ) → IsRecencyTable v
     → is_in (candidates v wants) p ≡ (is_loose v p && not (list_any (λ w. is_in (ancestors_of v.shape w.page) p) wants))
 unfolding candidates
 candidates_are v wants p table =

@@ -7,8 +7,8 @@ use Rattle.vt_plan.specs.FeedbackTypes.Wanted.{Wanted}
 use Rattle.vt_plan.specs.Wants.{pages_wanted}
 use Rattle.vt_plan.specs.Orders.{put_first, line_pages}
 use Rattle.vt_plan.specs.PageLists.{is_in}
-use Rattle.vt_plan.specs.Views.{RecencyView, IsTable, is_pinned, is_loose, is_loose_below, touched_pages, touched, pages_needed}
-use Rattle.vt_plan.specs.Missing.{is_mapped}
+use Rattle.vt_plan.specs.Views.{RecencyView, IsRecencyTable, is_pinned, is_loose, is_loose_below, touched_pages, touched, pages_needed}
+use Rattle.vt_plan.specs.Missing.{has_frame}
 use Rattle.vt_evict.proofs.ListLemmas.{is_in-more, distinct-filter, each_once_distinct, put_once}
 use Rattle.vt_plan.proofs.ListLemmas.{filter_same, is_in-filter}
 
@@ -17,7 +17,7 @@ loose_tests p pages pinned true = grind (arith, nat_tests)
 loose_tests p pages pinned false = grind (arith, nat_tests)
 
 pub loose_below : (v : RecencyView) (p : ℕ) → is_loose_below v.entries (pages_of v.shape - v.pinned) p ≡ is_loose v p
-loose_below v p = loose_tests p (pages_of v.shape) v.pinned (is_mapped v.entries p)
+loose_below v p = loose_tests p (pages_of v.shape) v.pinned (has_frame v.entries p)
 
 pub touched_is : (v : RecencyView) (wants : List Wanted) (walked keys : List ℕ) → walked ≡ line_pages v.shape (pages_wanted wants)
     → keys ≡ put_first (filter (is_loose_below v.entries (pages_of v.shape - v.pinned)) walked) v.order → record v { order = keys } ≡ touched v wants
@@ -33,7 +33,7 @@ both true false = refl
 both false true = refl
 both false false = refl
 
-pub touched_table : (v : RecencyView) (wants : List Wanted) → IsTable v → IsTable (touched v wants)
+pub touched_table : (v : RecencyView) (wants : List Wanted) → IsRecencyTable v → IsRecencyTable (touched v wants)
 unfolding put_first touched_pages line_pages
 touched_table v wants h = record {
   limits = h.limits;

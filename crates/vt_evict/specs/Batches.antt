@@ -6,8 +6,8 @@ use Rattle.vt_plan.specs.declared.batches.Planned.{Planned}
 use Rattle.vt_plan.specs.Views.{RecencyView}
 
 -- no page has a frame
-abbrev pub IsFree : List ℕ → ℕ → Type 0
-IsFree entries f = (p : ℕ) → slice_index entries p ≢ f + 1
+abbrev pub IsFreePage : List ℕ → ℕ → Type 0
+IsFreePage entries f = (p : ℕ) → slice_index entries p ≢ f + 1
 
 -- a page is unpinned and has a frame
 pub record IsVictim (v : RecencyView) (f p : ℕ) : Type 0 where
@@ -19,10 +19,10 @@ pub record IsLawfulEntry (v : RecencyView) (e : Planned) : Type 0 where
   pub unpinned : e.page + v.pinned < pages_of v.shape
   pub unmapped : slice_index v.entries e.page ≡ 0
   pub frame_inside : e.frame < v.frames
-  pub place : MatchOption e.victim (IsFree v.entries e.frame) (IsVictim v e.frame)
+  pub place : MatchOption e.victim (IsFreePage v.entries e.frame) (IsVictim v e.frame)
 
 -- a batch is lawful for a table: each entry is, and no page and no frame is in two
-pub record IsLawful (v : RecencyView) (batch : List Planned) : Type 0 where
+pub record IsLawfulBatch (v : RecencyView) (batch : List Planned) : Type 0 where
   pub each : All (IsLawfulEntry v) batch
   pub apart : AllPairs (λ a b. (a.page ≢ b.page) × (a.frame ≢ b.frame)) batch
 
@@ -58,7 +58,7 @@ unfoldable pub settled_order : List ℕ → List Planned → List ℕ
 settled_order order reads = map (λ e. e.page) reads ++ filter (λ p. not (is_victim reads p)) order
 
 -- the table and the order after the entries that were read
-pub record IsSettled (old : RecencyView) (reads : List Planned) (new : RecencyView) : Type 0 where
+pub record IsSettledByReads (old : RecencyView) (reads : List Planned) (new : RecencyView) : Type 0 where
   pub shape : new.shape ≡ old.shape
   pub frames : new.frames ≡ old.frames
   pub pinned : new.pinned ≡ old.pinned

@@ -8,7 +8,7 @@ use Rattle.vt_plan.specs.FeedbackTypes.Wanted.{Wanted}
 use Rattle.vt_plan.specs.declared.batches.Planned.{Planned}
 use Rattle.vt_plan.specs.PageLists.{is_in}
 use Rattle.vt_plan.specs.Entries.{taken_at}
-use Rattle.vt_plan.specs.Views.{RecencyView, IsTable, is_held}
+use Rattle.vt_plan.specs.Views.{RecencyView, IsRecencyTable, is_held}
 use Rattle.vt_plan.specs.Plans.{candidates}
 
 -- of so many pages those that were walked over are marked, and there is room for the others
@@ -19,12 +19,12 @@ pub record IsWalk (pages : ℕ) (marks : List Bool) (walked : ListView ℕ) : Ty
   pub room : pages ≤ walked.spare + length walked.elements
 
 -- the parents of a list's pages are in the list
-pub record IsClosed (s : Shape) (walked : List ℕ) : Type 0 where
+pub record HasParents (s : Shape) (walked : List ℕ) : Type 0 where
   pub parents : (p q : ℕ) → is_in walked p ≡ true → parent_of s p ≡ Some q → is_in walked q ≡ true
 
 -- what is kept beside a table: the free frames, the order's room, and a walk over no page
-pub record IsKept (v : RecencyView) (free : List ℕ) (cap : ℕ) (marks : List Bool) (walked : ListView ℕ) : Type 0 where
-  pub table : IsTable v
+pub record IsRecencyKept (v : RecencyView) (free : List ℕ) (cap : ℕ) (marks : List Bool) (walked : ListView ℕ) : Type 0 where
+  pub table : IsRecencyTable v
   pub free_frames : (f : ℕ) → is_in free f ≡ (nat_lt f v.frames && not (is_held v.entries f))
   pub no_bound : cap ≡ 2 ^ 64 - 1
   pub walk : IsWalk (pages_of v.shape) marks walked
@@ -48,6 +48,6 @@ applied v e = record v {
 }
 
 -- behind the entries before, missing pages have the frames of the pages that may be given up, up to so many entries in all
-abbrev pub HasTaken : RecencyView → List Wanted → List ℕ → ℕ → List Planned → List Planned → Type 0
-HasTaken v wants missing most before after = after ≡ before ++ map (taken_at v.entries missing (candidates v wants) (length before))
+abbrev pub HasTakenFrames : RecencyView → List Wanted → List ℕ → ℕ → List Planned → List Planned → Type 0
+HasTakenFrames v wants missing most before after = after ≡ before ++ map (taken_at v.entries missing (candidates v wants) (length before))
     (range_with_len 0 (min (most - length before) (length (candidates v wants))))

@@ -28,7 +28,7 @@ abbrev pub no_stamps : Stamps
 no_stamps p = None
 
 -- a pass: its number, the table after it, its batch, which entries were lost, and its wanted list
-pub record Pass : Type 0 where
+pub record StampedPass : Type 0 where
   pub number : ℕ
   pub after : RecencyView
   pub batch : List Planned
@@ -36,7 +36,7 @@ pub record Pass : Type 0 where
   pub wants : List Wanted
 
 -- the stamp that a pass gives a page at a place
-abbrev pub stamp_at : Pass → ℕ → ℕ → Stamp
+abbrev pub stamp_at : StampedPass → ℕ → ℕ → Stamp
 stamp_at x p place = record { pass = x.number; place = place; level = level_of x.after.shape p }
 
 -- the entry at a place of a batch has this page, and was read
@@ -51,21 +51,21 @@ pub record IsInLineAt (s : Shape) (pages : List ℕ) (i p : ℕ) : Type 0 where
   pub in_line : is_in (ancestors_of s (slice_index pages i)) p ≡ true
 
 -- the stamp of a page that was read: greater for an earlier entry
-pub record IsByEntry (x : Pass) (p : ℕ) (t : Stamp) : Type 0 where
+pub record IsByEntry (x : StampedPass) (p : ℕ) (t : Stamp) : Type 0 where
   pub at : ℕ
   pub read : IsReadAt x.batch x.lost at p
   pub stamp : t ≡ stamp_at x p (length x.batch - 1 - at)
 
 -- the stamp of an unpinned mapped page in the line of a wanted one: greater for an earlier wanted page, and than those of entries
-pub record IsByWant (x : Pass) (p : ℕ) (t : Stamp) : Type 0 where
+pub record IsByWant (x : StampedPass) (p : ℕ) (t : Stamp) : Type 0 where
   pub at : ℕ
   pub in_line : IsInLineAt x.after.shape (pages_wanted x.wants) at p
   pub loose : is_loose x.after p ≡ true
   pub stamp : t ≡ stamp_at x p (length x.batch + length x.wants - 1 - at)
 
 -- the stamps among which a page keeps the greatest: the one that it had, and those that a pass gives it
-abbrev pub IsOwn : Stamps → Pass → ℕ → Stamp → Type 0
-IsOwn old x p t = (old p ≡ Some t) ⊎ (IsByEntry x p t ⊎ IsByWant x p t)
+abbrev pub IsOwnStamp : Stamps → StampedPass → ℕ → Stamp → Type 0
+IsOwnStamp old x p t = (old p ≡ Some t) ⊎ (IsByEntry x p t ⊎ IsByWant x p t)
 
 -- the greatest of some stamps, if there is one
 abbrev pub IsGreatest : (Stamp → Type 0) → Option Stamp → Type 0
@@ -73,8 +73,8 @@ IsGreatest Own None = (t : Stamp) → Own t → ⊥
 IsGreatest Own (Some t) = Own t × ((u : Stamp) → Own u → is_less t u ≡ false)
 
 -- the stamps after a pass: each page has the greatest of its own
-abbrev pub AreAfter : Stamps → Pass → Stamps → Type 0
-AreAfter old x new = (p : ℕ) → IsGreatest (IsOwn old x p) (new p)
+abbrev pub AreAfter : Stamps → StampedPass → Stamps → Type 0
+AreAfter old x new = (p : ℕ) → IsGreatest (IsOwnStamp old x p) (new p)
 
 -- all stamps are of passes before this one
 abbrev pub AreBefore : Stamps → ℕ → Type 0

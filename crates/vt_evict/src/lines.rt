@@ -6,7 +6,7 @@ ghost use Rattle.vt_plan.specs.Pages.{IsWithinLimits, pages_of, ancestors_of};
 ghost use Rattle.vt_plan.specs.Wants.{pages_wanted};
 ghost use Rattle.vt_plan.specs.Orders.{line_pages};
 ghost use Rattle.vt_plan.specs.PageLists.{is_in};
-ghost use Rattle.vt_evict.specs.Kept.{IsWalk, IsClosed};
+ghost use Rattle.vt_evict.specs.Kept.{IsWalk, HasParents};
 
 use indexmap::IndexSet;
 use std::alloc::Global;
@@ -76,9 +76,9 @@ fn walk_line(geometry: &Geometry, walk: &mut Walk, page: u32)
     requires limits { IsWithinLimits geometry.now }
     requires inside { page < pages_of geometry.now }
     requires walk { IsWalk (pages_of geometry.now) walk.old.marks.items walk.old.walked }
-    requires closed { IsClosed geometry.now walk.old.walked.elements }
+    requires closed { HasParents geometry.now walk.old.walked.elements }
     ensures walk { IsWalk (pages_of geometry.now) walk.new.marks.items walk.new.walked }
-    ensures closed { IsClosed geometry.now walk.new.walked.elements }
+    ensures closed { HasParents geometry.now walk.new.walked.elements }
     ensures walked { walk.new.walked.elements
         ≡ walk.old.walked.elements ++ filter (λ p. not (is_in walk.old.walked.elements p)) (reverse (ancestors_of geometry.now page)) }
 {
@@ -114,8 +114,8 @@ pub fn walk_lines(geometry: &Geometry, walk: &mut Walk, wants: &Wants)
 fn add_line(geometry: &Geometry, pages: &mut IndexSet<u32>, page: u32) -> Result<(), NoMemory>
     requires limits { IsWithinLimits geometry.now }
     requires inside { page < pages_of geometry.now }
-    requires closed { IsClosed geometry.now pages.old.keys }
-    ensures closed { OnOk result (IsClosed geometry.now pages.new.keys) }
+    requires closed { HasParents geometry.now pages.old.keys }
+    ensures closed { OnOk result (HasParents geometry.now pages.new.keys) }
     ensures added { OnOk result (pages.new.keys
         ≡ pages.old.keys ++ filter (λ p. not (is_in pages.old.keys p)) (reverse (ancestors_of geometry.now page))) }
 {

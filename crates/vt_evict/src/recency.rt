@@ -5,9 +5,9 @@ ghost use Rattle.std.specs.List.{All, range_with_len};
 ghost use Rattle.vt_plan.specs.Limits.{most_frames};
 ghost use Rattle.vt_plan.specs.Pages.{pages_of};
 ghost use Rattle.vt_plan.specs.PageLists.{is_in};
-ghost use Rattle.vt_plan.specs.Views.{IsTable, first_view, free_frames, touched, pages_needed};
-ghost use Rattle.vt_evict.specs.Batches.{IsLawful, IsLawfulEntry, IsSettled, read_entries};
-ghost use Rattle.vt_evict.specs.Kept.{applied, HasTaken};
+ghost use Rattle.vt_plan.specs.Views.{IsRecencyTable, first_view, free_frames, touched, pages_needed};
+ghost use Rattle.vt_evict.specs.Batches.{IsLawfulBatch, IsLawfulEntry, IsSettledByReads, read_entries};
+ghost use Rattle.vt_evict.specs.Kept.{applied, HasTakenFrames};
 ghost use Rattle.vt_plan.specs.Plans.{plan_of, plan_by};
 
 use crate::lines::{Walk, lines_of, walk_lines};
@@ -35,7 +35,7 @@ pub struct Recency {
 impl Model for Recency {
     ghost use Rattle.std.specs.Map.{keys_of};
     ghost use Rattle.vt_plan.specs.Views.{RecencyView};
-    ghost use Rattle.vt_evict.specs.Kept.{IsKept};
+    ghost use Rattle.vt_evict.specs.Kept.{IsRecencyKept};
 
     ghost Value = { RecencyView };
 
@@ -47,7 +47,7 @@ impl Model for Recency {
       order = keys_of a.order.entries;
     } };
 
-    ghost invariant = { λ a. IsKept
+    ghost invariant = { λ a. IsRecencyKept
         (record { shape = a.geometry; frames = a.frames; pinned = a.pinned; entries = a.entries.items; order = keys_of a.order.entries })
         a.free.keys a.order.cap a.walk.marks.items a.walk.walked };
 }
@@ -67,7 +67,7 @@ impl Recency {
         requires enough_pages { pinned ≤ pages_of geometry.now }
         ensures first { IfOk result (λ r. r ≡ first_view geometry.now frames pinned) }
         ensures shape { IfOk result (λ r. r.shape ≡ geometry.now) }
-        ensures table { IfOk result IsTable }
+        ensures table { IfOk result IsRecencyTable }
     {
         let entries = first_entries(alloc, geometry.page_count(), pinned)?;
         let free = frames_from(alloc, pinned, frames)?;
@@ -88,10 +88,10 @@ impl Recency {
     /// become the most recent pages, the first of the batch before the others. After a refusal the value can only be
     /// dropped.
     pub fn settle(&mut self, batch: &Batch, lost: &Losses) -> Result<(), NoMemory>
-        requires lawful { IsLawful self.old batch.now.elements }
+        requires lawful { IsLawfulBatch self.old batch.now.elements }
         requires lost_for_all { length lost.now.elements ≡ length batch.now.elements }
-        ensures settled { OnOk result (IsSettled self.old (read_entries batch.now.elements lost.now.elements) self.new) }
-        ensures table { OnOk result (IsTable self.new) }
+        ensures settled { OnOk result (IsSettledByReads self.old (read_entries batch.now.elements lost.now.elements) self.new) }
+        ensures table { OnOk result (IsRecencyTable self.new) }
     {
         let _frames = self.frames();
         let mut left = batch.len();
@@ -106,7 +106,7 @@ impl Recency {
     /// The entries of the table: for each page 0 where it is unmapped, else its frame and 1.
     pub fn entries(&self) -> &[u32]
         ensures entries { result.now ≡ self.now.entries }
-        ensures table { IsTable self.now }
+        ensures table { IsRecencyTable self.now }
     {
         let _frames = self.frames();
         self.entries.as_slice()
@@ -122,7 +122,7 @@ impl Recency {
     // The number of frames.
     fn frames(&self) -> u32
         ensures frames { result ≡ self.now.frames }
-        ensures table { IsTable self.now }
+        ensures table { IsRecencyTable self.now }
     {
         self.frames
     }
@@ -131,7 +131,7 @@ impl Recency {
     fn apply_unless(&mut self, lost: bool, planned: &Planned) -> Result<(), NoMemory>
         requires { IsLawfulEntry self.old planned.now }
         ensures applied { OnOk result (self.new ≡ (if lost then self.old else applied self.old planned.now)) }
-        ensures table { OnOk result (IsTable self.new) }
+        ensures table { OnOk result (IsRecencyTable self.new) }
     {
         let _frames = self.frames();
         if lost {
@@ -144,7 +144,7 @@ impl Recency {
     fn apply(&mut self, planned: &Planned) -> Result<(), NoMemory>
         requires { IsLawfulEntry self.old planned.now }
         ensures applied { OnOk result (self.new ≡ applied self.old planned.now) }
-        ensures table { OnOk result (IsTable self.new) }
+        ensures table { OnOk result (IsRecencyTable self.new) }
     {
         let planned = *planned;
         insert(&mut self.order, planned.page)?;
@@ -168,7 +168,7 @@ impl Recency {
     pub fn touch(&mut self, wants: &Wants)
         requires { All (λ w. w.page < pages_of self.old.shape) wants.now.elements }
         ensures touched { self.new ≡ touched self.old wants.now.elements }
-        ensures table { IsTable self.new }
+        ensures table { IsRecencyTable self.new }
     {
         let pages = self.geometry.page_count();
         walk_lines(&self.geometry, &mut self.walk, wants);
@@ -187,7 +187,7 @@ impl Recency {
     pub fn plan(&self, alloc: Global, wants: &Wants, q: u32) -> Result<Batch, NoMemory>
         requires { All (λ w. w.page < pages_of self.now.shape) wants.now.elements }
         ensures plan { IfOk result (λ b. b.elements ≡ plan_of self.now wants.now.elements q) }
-        ensures lawful { IfOk result (λ b. IsLawful self.now b.elements) }
+        ensures lawful { IfOk result (λ b. IsLawfulBatch self.now b.elements) }
         ensures most { IfOk result (λ b. length b.elements ≤ q) }
     {
         let asked = missing_of(alloc, &self.geometry, self.entries.as_slice(), wants)?;
@@ -225,7 +225,7 @@ impl Recency {
         requires inside { All (λ w. w.page < pages_of self.now.shape) wants.now.elements }
         requires enough { most ≤ length missing.now }
         requires room { most ≤ batch.old.spare + length batch.old.elements }
-        ensures { OnOk result (HasTaken self.now wants.now.elements missing.now most batch.old.elements batch.new.elements) }
+        ensures { OnOk result (HasTakenFrames self.now wants.now.elements missing.now most batch.old.elements batch.new.elements) }
     {
         if batch.len() >= most {
             return Ok(());

@@ -20,7 +20,7 @@ use Rattle.vt_journal.specs.Lookups.{is_mapped}
 use Rattle.vt_grace.specs.Places.{words_of, entry_place, bank_of}
 use Rattle.vt_grace.specs.Stages.{announcement}
 use Rattle.vt_grace.specs.WriterViews.{version_of, is_out, first_writer}
-use Rattle.vt_grace.specs.Giving.{aimed, giving, fresh_pass, new_pass, taken, after_giving, after_return, first_view}
+use Rattle.vt_grace.specs.Giving.{aimed, giving, fresh_pass, new_pass, taken, after_giving, after_return, writers_first_view}
 use Rattle.vt_grace.specs.PassViews.{idle}
 use Rattle.vt_grace.specs.Seats.{Sat, passing, writing}
 use Rattle.vt_grace.specs.Notes.{entry_number, IsTrueNote, IsTrueWord}
@@ -223,7 +223,7 @@ sound_first key = record {
 }
 
 -- a new table, all of whose words are 0, keeps the rule
-pub starts : (key : Sizes) (n : ℕ) → n ≡ words_of key → Ruled key (opening (replicate n 0) [] (first_view key))
+pub starts : (key : Sizes) (n : ℕ) → n ≡ words_of key → Ruled key (opening (replicate n 0) [] (writers_first_view key))
 starts key n wide = record {
   w = first_writer key;
   owner = λ _. 0;
@@ -243,8 +243,8 @@ starts key n wide = record {
   };
 }
   where
-    first : (j : ℕ) (v : View) → get_elem? (first_view key ∷ []) j ≡ some v → IsSeated (first_writer key) (replicate n 0) (λ _. 0) j v
-    first zero v e = subst (IsSeated (first_writer key) (replicate n 0) (λ _. 0) 0) (some-injective (first_view key) v e) refl
+    first : (j : ℕ) (v : View) → get_elem? (writers_first_view key ∷ []) j ≡ some v → IsSeated (first_writer key) (replicate n 0) (λ _. 0) j v
+    first zero v e = subst (IsSeated (first_writer key) (replicate n 0) (λ _. 0) 0) (some-injective (writers_first_view key) v e) refl
     first (suc j) v e = cc
 
 pub gives_at : (key : Sizes) (id sampler : ℕ) (m : Sat) (w : WriterView) → m ≡ writing w → w.sizes ≡ key → aimed w.looks ≡ sampler → sampler < key.samplers → is_out w sampler ≡ false

@@ -16,7 +16,7 @@ use Rattle.vt_grace.specs.declared.views.View.TheVariants.{Writing, Passing, Spe
 use Rattle.vt_grace.specs.Stages.{announcement, IsStageIn}
 use Rattle.vt_grace.specs.WriterViews.{version_of, floor_of, is_out}
 use Rattle.vt_grace.specs.Sound.{IsSound}
-use Rattle.vt_grace.specs.Rules.{Agrees, IsSeatedPass, IsSeated, IsRuledBy}
+use Rattle.vt_grace.specs.Rules.{WordsAgree, IsSeatedPass, IsSeated, IsRuledBy}
 
 -- a number for one place, and for the others what they had
 abbrev pick : {P : Type 0} → Dec P → ℕ → ℕ → ℕ
@@ -108,7 +108,7 @@ pass_step key w owner s id p p' words' r at same as_wide others mine = let befor
 
 -- a step of the writer
 pub writer_step : (key : Sizes) (w w' : WriterView) (owner : ℕ → ℕ) (s : State (Unit {0}) View) (words' : List ℕ)
-    → IsRuledBy key w owner s → w'.sizes ≡ w.sizes → length words' ≡ length s.words → Agrees w' words' → IsSound w'
+    → IsRuledBy key w owner s → w'.sizes ≡ w.sizes → length words' ≡ length s.words → WordsAgree w' words' → IsSound w'
     → ((j : ℕ) (p : PassView) → IsSeatedPass w s.words owner j p → IsSeatedPass w' words' owner j p)
     → IsRuledBy key w' owner record { words = words'; homes = s.homes; views = set s.views 0 (Writing w') }
 writer_step key w w' owner s words' r same as_wide agrees sound passes = record {

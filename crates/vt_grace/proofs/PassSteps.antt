@@ -123,16 +123,16 @@ announces key slots id sampler me p k where_ is hint = pass_sets key slots id sa
 ))
 
 pub holds : (key : Sizes) (slots id : ℕ) (me : Sat) (p : PassView) (k : ℕ) → me ≡ passing p → p.stage ≡ Announced k → Allows (Ruled key) slots id me 0 (λ n. n) (held (step slots 0 0 0 none) me)
-holds key slots id me p k is told = pass_allows key slots id 0 me p (held (step slots 0 0 0 none) me) is (λ s w owner r before.
-    let n : ℕ = get_or s.words 0 0 in let now : n ≡ version_of w = r.agrees.version in let k' : ℕ = hint_of p.stage in let same : k' ≡ k = ap hint_of told in
-    let low : k ≤ version_of w = stage_in (version_of w) (floor_of w p.sampler) p.stage (Announced k) told before.sound.stage in
+holds key slots id me p k is heard = pass_allows key slots id 0 me p (held (step slots 0 0 0 none) me) is (λ s w owner r before.
+    let n : ℕ = get_or s.words 0 0 in let now : n ≡ version_of w = r.agrees.version in let k' : ℕ = hint_of p.stage in let same : k' ≡ k = ap hint_of heard in
+    let low : k ≤ version_of w = stage_in (version_of w) (floor_of w p.sampler) p.stage (Announced k) heard before.sound.stage in
     let floor : floor_of w p.sampler ≤ version_of w = r.sound.low p.sampler before.sound.inside in
     let given : p.given ≤ version_of w = before.sound.given in
     let below : NoneAbove n p.held = subst (λ (v : ℕ). NoneAbove v p.held) (sym now) before.sound.held in
     let taken : HoldsNow p n (passing (holding n p)) = record { now = refl; above = omega arith; given = omega arith; held = below } in (
       holding n p,
       refl,
-      ap (λ (j : ℕ). j + 1) same ∙ ap announcement (sym told),
+      ap (λ (j : ℕ). j + 1) same ∙ ap announcement (sym heard),
       record {
         sizes = before.sound.sizes;
         inside = before.sound.inside;
@@ -191,7 +191,7 @@ reads key slots id page k u me p is holds_it inside i where_ = pass_allows key s
       small = most;
       is = value ∙ ap (λ (x : ℕ). entry_number (at w.journal x page)) (sym held_is);
     } in
-    let told : HasRead p page n (passing (noting v page n p)) = record {
+    let heard : HasRead p page n (passing (noting v page n p)) = record {
       now = refl;
       most = subst (λ (x : Sizes). n ≤ x.frames) (sym sizes) most;
       root = λ at_root was e. entry_some (at w.journal u page)
@@ -215,7 +215,7 @@ reads key slots id page k u me p is holds_it inside i where_ = pass_allows key s
       subst (λ (y : Sat). read (step slots i 0 0 none) y n (passing (noting v page n p))) (sym is) (λ q at_q.
           let same : page ≡ q = let a : i ≡ entry_word p.sizes (bank_of v) page = where_ ∙ ap (λ (x : ℕ). entry_word p.sizes (bank_of x) page) (sym held_is) in
           let b : i ≡ entry_word p.sizes (bank_of v) q = at_q in same_place p.sizes.samplers (bank_of v * p.sizes.pages) page q (sym a ∙ b) in
-          subst (λ (x : ℕ). HasRead p x n (passing (noting v page n p))) same told),
+          subst (λ (x : ℕ). HasRead p x n (passing (noting v page n p))) same heard),
     ))
   where
     same_place : (a b x y : ℕ) → 1 + a + (b + x) ≡ 1 + a + (b + y) → x ≡ y
@@ -234,8 +234,8 @@ pub record HasPinned (p : PassView) (h v : ℕ) (m : Sat) : Type 0 where
 
 pub pins : (p : PassView) (h v : ℕ) (m₁ m₂ m₃ : Sat) → m₁ ≡ passing (at_stage (Hinted h) p) → m₂ ≡ passing (at_stage (Announced (hint_of (pass_in m₁.0).stage)) (pass_in m₁.0))
     → HoldsNow (pass_in m₂.0) v m₃ → HasPinned p h v m₃
-pins p h v m₁ m₂ m₃ hint told took =
-    let second : pass_in m₂.0 ≡ at_stage (Announced h) p = (sees_pass m₂ _ told).1 ∙ ap (λ (q : PassView). at_stage (Announced (hint_of q.stage)) q) (sees_pass m₁ _ hint).1 in
+pins p h v m₁ m₂ m₃ hint heard took =
+    let second : pass_in m₂.0 ≡ at_stage (Announced h) p = (sees_pass m₂ _ heard).1 ∙ ap (λ (q : PassView). at_stage (Announced (hint_of q.stage)) q) (sees_pass m₁ _ hint).1 in
     let all : HoldsNow (at_stage (Announced h) p) v m₃ = subst (λ (q : PassView). HoldsNow q v m₃) second took in
     record { is = all.now; above = all.above; given = all.given; held = all.held }
 

@@ -25,7 +25,7 @@ use Rattle.vt_grace.specs.WriterViews.{version_of, floor_of, raised, after_look,
 use Rattle.vt_grace.specs.Seats.{Sat, writing, writer_in}
 use Rattle.vt_grace.specs.PassViews.{NoneAbove}
 use Rattle.vt_grace.specs.Notes.{entry_number, IsTrueNote, IsTrueWord}
-use Rattle.vt_grace.specs.Banks.{Stands, IsInWindow, MayWriteNext, MayFill, MayPublish}
+use Rattle.vt_grace.specs.Banks.{StandsForTable, IsInWindow, MayWriteNext, MayFill, MayPublishBank}
 use Rattle.vt_grace.specs.Sound.{IsSoundPass, IsSoundReturn, IsSound}
 use Rattle.vt_grace.specs.Rules.{IsRuledBy, Ruled}
 use Rattle.vt_grace.specs.Plays.{held, HasLooked, looked, published, learnt, entered, filled}
@@ -147,7 +147,7 @@ looks key slots id sampler me w is sizes inside = writer_allows key slots id (1 
       filled = λ u inw. r.sound.filled u (inw.0, (inw.1.0, inw.1.1, (let up = floor_up inw.1.0 in let low = inw.1.2 in omega arith)));
       word_notes = r.sound.word_notes;
     } in
-    let told : HasLooked w sampler n (writing w') = record { now = refl; sound = sound; absent = λ gone. r.agrees.absent sampler inside' gone; most = most } in
+    let heard : HasLooked w sampler n (writing w') = record { now = refl; sound = sound; absent = λ gone. r.agrees.absent sampler inside' gone; most = most } in
     let where_ : sampler ≡ 1 + sampler - 1 = omega arith in (
       w',
       (
@@ -164,7 +164,7 @@ looks key slots id sampler me w is sizes inside = writer_allows key slots id (1 
                   (λ other. subst (λ (x : ℕ). IsStageIn v x p.stage) (sym (floor_else p.sampler other)) sat.sound.stage))
                   sat.sound;
             })),
-        subst (λ (z : Sat). looked (step slots (1 + sampler) 0 0 none) z n (writing w')) (sym is) (subst (λ (k : ℕ). HasLooked w k n (writing w')) where_ told),
+        subst (λ (z : Sat). looked (step slots (1 + sampler) 0 0 none) z n (writing w')) (sym is) (subst (λ (k : ℕ). HasLooked w k n (writing w')) where_ heard),
       ),
     ))
 
@@ -179,15 +179,15 @@ learns key slots id i me w is = writer_allows key slots id i (λ n. n) me w (lea
 ))
 
 -- the bank of the newest version is there, and those of the versions before it are as before
-next_window : (w : WriterView) (change : Change) → Stands w.sizes w.entries (changed (newest w.journal) change) (bank_of (version_of w + 1))
-    → ((v : ℕ) → IsInWindow w v → Stands w.sizes w.entries (at w.journal v) (bank_of v))
-    → (v : ℕ) → IsInWindow (after_change w change) v → Stands w.sizes w.entries (at (w.journal ++ change ∷ []) v) (bank_of v)
+next_window : (w : WriterView) (change : Change) → StandsForTable w.sizes w.entries (changed (newest w.journal) change) (bank_of (version_of w + 1))
+    → ((v : ℕ) → IsInWindow w v → StandsForTable w.sizes w.entries (at w.journal v) (bank_of v))
+    → (v : ℕ) → IsInWindow (after_change w change) v → StandsForTable w.sizes w.entries (at (w.journal ++ change ∷ []) v) (bank_of v)
 next_window w change stands before v inw = let grown : version_of (after_change w change) ≡ version_of w + 1 = length-append w.journal (change ∷ []) in
     dite (ℕ_discrete v (version_of w + 1))
     (λ last. let table : changed (newest w.journal) change ≡ at (w.journal ++ change ∷ []) v = sym (newest-more w.journal change) ∙ ap (at (w.journal ++ change ∷ [])) (grown ∙ sym last) in
-    subst (λ (x : ℕ × Table). Stands w.sizes w.entries x.1 (bank_of x.0)) (λ i. (sym last i, table i)) stands)
+    subst (λ (x : ℕ × Table). StandsForTable w.sizes w.entries x.1 (bank_of x.0)) (λ i. (sym last i, table i)) stands)
     (λ other. let top = inw.0 in let low : v ≤ version_of w = omega arith in
-    subst (λ (m : Table). Stands w.sizes w.entries m (bank_of v)) (sym (at-front w.journal (change ∷ []) v low)) (before v (low, inw.1)))
+    subst (λ (m : Table). StandsForTable w.sizes w.entries m (bank_of v)) (sym (at-front w.journal (change ∷ []) v low)) (before v (low, inw.1)))
 
 some_none : (f : ℕ) → Some f ≡ None → ⊥
 some_none f e = cc
@@ -199,12 +199,12 @@ entry_one (Some f) None e = absurd (omega arith)
 entry_one (Some f) (Some g) e = let same : f ≡ g = omega arith in ap (λ (x : ℕ). Some x) same
 
 -- what a change does to the page of another one
-shows : (z : Sizes) (entries : List ℕ) (m n : Table) (bank page : ℕ) → page < z.pages → Stands z entries m bank → Stands z entries n bank → m page ≡ n page
+shows : (z : Sizes) (entries : List ℕ) (m n : Table) (bank page : ℕ) → page < z.pages → StandsForTable z entries m bank → StandsForTable z entries n bank → m page ≡ n page
 shows z entries m n bank page inside first second = entry_one (m page) (n page) (sym (first page inside) ∙ second page inside)
 
 -- a bank shows only one change of a table
 only_change : (z : Sizes) (entries : List ℕ) (m : Table) (bank : ℕ) (c d : Change) → change_page c < z.pages → change_page d < z.pages → IsNext m c → IsNext m d
-    → Stands z entries (changed m c) bank → Stands z entries (changed m d) bank → c ≡ d
+    → StandsForTable z entries (changed m c) bank → StandsForTable z entries (changed m d) bank → c ≡ d
 only_change z entries m bank (Map p f) (Map q g) low high this that first second = elim (same_page p q) [
   | inl same ↦ let at_p : Some f ≡ Some g = sym (entry-same m p (Some f)) ∙ (shows z entries (changed m (Map p f)) (changed m (Map q g)) bank p low first second ∙ (ap (with_entry m q (Some g)) same ∙ entry-same m q (Some g))) in
       let frames : f ≡ g = cc in ap (λ (x : ℕ × ℕ). Map x.0 x.1) (λ i. (same i, frames i))
@@ -223,7 +223,7 @@ only_change z entries m bank (Unmap p f) (Unmap q g) low high this that first se
   | inr other ↦ let at_p : Some f ≡ None = sym (entry-other m q p None other ∙ this) ∙ (sym (shows z entries (changed m (Unmap p f)) (changed m (Unmap q g)) bank p low first second) ∙ entry-same m p None) in absurd (some_none f at_p)
 ]
 
-pub publishes : (key : Sizes) (slots id v : ℕ) (me : Sat) (w : WriterView) (change : Change) → me ≡ writing w → v ≡ version_of w → v < most_versions → MayPublish w change
+pub publishes : (key : Sizes) (slots id v : ℕ) (me : Sat) (w : WriterView) (change : Change) → me ≡ writing w → v ≡ version_of w → v < most_versions → MayPublishBank w change
     → Allows (Ruled key) slots id me 0 (λ _. v + 1) (λ _. published (step slots 0 (v + 1) 0 none) me (v + 1))
 publishes key slots id v me w change is newest_is room asked = writer_allows key slots id 0 (λ _. v + 1) me w (λ _. published (step slots 0 (v + 1) 0 none) me (v + 1)) is (λ s owner r.
     let next = asked.next in let stands = asked.stands in
@@ -260,14 +260,14 @@ publishes key slots id v me w change is newest_is room asked = writer_allows key
             sound
             (λ j p sat. record { owned = sat.owned; is_out = sat.is_out; word = others p.sampler ∙ sat.word; sound = later_pass w.sizes w.journal w.contents change (content_of w.sizes w.texels change) (floor_of w p.sampler) p r.sound.contents next sat.sound }),
         subst (λ (z : Sat). published (step slots 0 (v + 1) 0 none) z (v + 1) (writing w')) (sym is)
-            (λ c told. let same : change ≡ c = only_change w.sizes w.entries (newest w.journal) (bank_of (version_of w + 1)) change c asked.page told.page next.0 told.next.0 stands told.stands in
+            (λ c heard. let same : change ≡ c = only_change w.sizes w.entries (newest w.journal) (bank_of (version_of w + 1)) change c asked.page heard.page next.0 heard.next.0 stands heard.stands in
             subst (λ (x : Change). (writing w' ≡ writing (after_change w x)) × IsSound (after_change w x)) same (refl, sound)),
       ),
     ))
 
 -- an entry of the next bank leaves each version of the window as it is
-other_banks : (w : WriterView) (page entry : ℕ) → page < w.sizes.pages → MayWriteNext w → ((v : ℕ) → IsInWindow w v → Stands w.sizes w.entries (at w.journal v) (bank_of v))
-    → (v : ℕ) → IsInWindow w v → Stands w.sizes (set w.entries (entry_place w.sizes (bank_of (version_of w + 1)) page) entry) (at w.journal v) (bank_of v)
+other_banks : (w : WriterView) (page entry : ℕ) → page < w.sizes.pages → MayWriteNext w → ((v : ℕ) → IsInWindow w v → StandsForTable w.sizes w.entries (at w.journal v) (bank_of v))
+    → (v : ℕ) → IsInWindow w v → StandsForTable w.sizes (set w.entries (entry_place w.sizes (bank_of (version_of w + 1)) page) entry) (at w.journal v) (bank_of v)
 other_banks w page entry inside may before v inw q low =
     let up = may inw.1.0 inw.1.1 in let from = inw.1.2 in let to = inw.0 in let apart : bank_of v ≢ bank_of (version_of w + 1) = λ e. omega arith in
     get_or-set_other w.entries (entry_place w.sizes (bank_of (version_of w + 1)) page) (entry_place w.sizes (bank_of v) q) entry 0

@@ -12,8 +12,8 @@ use Rattle.vt_grace.specs.WriterViews.{version_of, floor_of}
 use Rattle.vt_grace.specs.Notes.{entry_number}
 
 -- a bank is as a table says
-abbrev pub Stands : Sizes → List ℕ → Table → ℕ → Type 0
-Stands z entries m bank = (page : ℕ) → page < z.pages → slice_index entries (entry_place z bank page) ≡ entry_number (m page)
+abbrev pub StandsForTable : Sizes → List ℕ → Table → ℕ → Type 0
+StandsForTable z entries m bank = (page : ℕ) → page < z.pages → slice_index entries (entry_place z bank page) ≡ entry_number (m page)
 
 -- each frame that is mapped holds the content that its page was mapped with
 abbrev pub AreFilled : Sizes → List ℕ → Backing → Type 0
@@ -33,7 +33,7 @@ abbrev pub MayFill : WriterView → ℕ → Type 0
 MayFill w frame = (v : ℕ) → IsInWindow w v → (page : ℕ) → at w.journal v page ≢ Some frame
 
 -- the change is legal next, and the bank of the next version is as it says
-pub record MayPublish (w : WriterView) (change : Change) : Type 0 where
+pub record MayPublishBank (w : WriterView) (change : Change) : Type 0 where
   pub page : change_page change < w.sizes.pages
   pub next : IsNextKeeping w.sizes.root (newest w.journal) change
-  pub stands : Stands w.sizes w.entries (changed (newest w.journal) change) (bank_of (version_of w + 1))
+  pub stands : StandsForTable w.sizes w.entries (changed (newest w.journal) change) (bank_of (version_of w + 1))

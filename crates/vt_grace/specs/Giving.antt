@@ -12,8 +12,8 @@ use Rattle.vt_grace.specs.declared.views.View.TheVariants.{Writing, Passing, Spe
 use Rattle.vt_grace.specs.WriterViews.{version_of, first_writer}
 
 -- the first view of a table is the writer's
-abbrev pub first_view : Sizes → View
-first_view z = Writing (first_writer z)
+abbrev pub writers_first_view : Sizes → View
+writers_first_view z = Writing (first_writer z)
 
 -- the sampler at which the writer looked last
 abbrev pub aimed : List Look → ℕ

@@ -7,7 +7,7 @@ use Rattle.vt_grace.specs.Seats.{pass_at}
 use Rattle.vt_grace.specs.Stages.{hint_of}
 
 -- the pass of the sampler holds nothing
-pub record IsIdle (s : Seat (Unit {0}) View) (who : ℕ) : Type 0 where
+pub record HoldsNothing (s : Seat (Unit {0}) View) (who : ℕ) : Type 0 where
   pub stage : (pass_at s).stage ≡ Idle
   pub sampler : (pass_at s).sampler ≡ who
   pub inside : who < (pass_at s).sizes.samplers

@@ -12,7 +12,7 @@ use Rattle.vt_grace.specs.PassViews.{at_stage, idle, holding, noting, wording, N
 use Rattle.vt_grace.specs.WriterViews.{is_out, version_of, after_look, after_change, after_entry, after_word}
 use Rattle.vt_grace.specs.Places.{entry_word, bank_of, texel_word}
 use Rattle.vt_grace.specs.Sound.{IsSound}
-use Rattle.vt_grace.specs.Banks.{MayPublish}
+use Rattle.vt_grace.specs.Banks.{MayPublishBank}
 
 -- the newest version was read as a hint
 abbrev pub hinted : Step (Unit {0}) → Sat → ℕ → Sat → Type 0
@@ -50,7 +50,7 @@ looked st m n m' = HasLooked (writer_in m.0) (st.word - 1) n m'
 
 -- a store of the next version: the next bank tells which change it is, and there is only one
 abbrev pub published : Step (Unit {0}) → Sat → ℕ → Sat → Type 0
-published st m n m' = (change : Change) → MayPublish (writer_in m.0) change → (m' ≡ writing (after_change (writer_in m.0) change)) × IsSound (after_change (writer_in m.0) change)
+published st m n m' = (change : Change) → MayPublishBank (writer_in m.0) change → (m' ≡ writing (after_change (writer_in m.0) change)) × IsSound (after_change (writer_in m.0) change)
 
 -- the writer learns what is true of its own view
 abbrev pub learnt : Step (Unit {0}) → Sat → ℕ → Sat → Type 0

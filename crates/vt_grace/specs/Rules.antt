@@ -14,7 +14,7 @@ use Rattle.vt_grace.specs.WriterViews.{version_of, floor_of, is_out}
 use Rattle.vt_grace.specs.Sound.{IsSoundPass, IsSound}
 
 -- the words agree with the writer's view
-pub record Agrees (w : WriterView) (words : List ℕ) : Type 0 where
+pub record WordsAgree (w : WriterView) (words : List ℕ) : Type 0 where
   pub version : slice_index words 0 ≡ version_of w
   pub absent : (k : ℕ) → k < w.sizes.samplers → is_out w k ≡ false → slice_index words (1 + k) ≡ 0
   pub announced : (k : ℕ) → k < w.sizes.samplers → slice_index words (1 + k) ≤ version_of w + 1
@@ -39,7 +39,7 @@ pub record IsRuledBy (key : Sizes) (w : WriterView) (owner : ℕ → ℕ) (s : S
   pub sizes : w.sizes ≡ key
   pub writer : get_elem? s.views 0 ≡ some (Writing w)
   pub wide : length s.words ≡ words_of key
-  pub agrees : Agrees w s.words
+  pub agrees : WordsAgree w s.words
   pub sound : IsSound w
   pub seats : (j : ℕ) (v : View) → get_elem? s.views j ≡ some v → IsSeated w s.words owner j v
 

@@ -14,7 +14,7 @@ use Rattle.vt_grace.specs.Stages.{IsStageIn, IsSince}
 use Rattle.vt_grace.specs.PassViews.{NoneAbove, NeverFell}
 use Rattle.vt_grace.specs.WriterViews.{version_of, floor_of}
 use Rattle.vt_grace.specs.Notes.{IsTrueNote, IsTrueWord}
-use Rattle.vt_grace.specs.Banks.{AreFilled, Stands, IsInWindow}
+use Rattle.vt_grace.specs.Banks.{AreFilled, StandsForTable, IsInWindow}
 
 -- what is true of a pass, under the floor of its sampler
 pub record IsSoundPass (z : Sizes) (journal : List Change) (contents : List (List ℕ)) (floor : ℕ) (p : PassView) : Type 0 where
@@ -45,7 +45,7 @@ pub record IsSound (w : WriterView) : Type 0 where
   pub returned : All (IsSoundReturn (version_of w)) w.returned
   pub entries : length w.entries ≡ 4 * w.sizes.pages
   pub small : All (λ e. e ≤ w.sizes.frames) w.entries
-  pub window : (v : ℕ) → IsInWindow w v → Stands w.sizes w.entries (at w.journal v) (bank_of v)
+  pub window : (v : ℕ) → IsInWindow w v → StandsForTable w.sizes w.entries (at w.journal v) (bank_of v)
   pub notes : All (IsTrueNote w.sizes w.journal) w.notes
   pub contents : length w.contents ≡ length w.journal
   pub texels : length w.texels ≡ w.sizes.frames * w.sizes.texels

@@ -10,11 +10,11 @@ pub struct HoldRule;
 
 impl TableRule<(), View, Sizes> for HoldRule {
     ghost use Rattle.vt_grace.specs.Rules.{Ruled};
-    ghost use Rattle.vt_grace.specs.Giving.{first_view};
+    ghost use Rattle.vt_grace.specs.Giving.{writers_first_view};
 
     ghost holds = { Ruled };
 
-    ghost first = { first_view };
+    ghost first = { writers_first_view };
 }
 
 // The words with their rule.

@@ -36,14 +36,14 @@ pub struct Pass {
 
 impl Model for Pass {
     ghost use Rattle.vt_grace.specs.Seats.{IsPassing, pass_at};
-    ghost use Rattle.vt_grace.specs.Holds.{IsIdle};
+    ghost use Rattle.vt_grace.specs.Holds.{HoldsNothing};
     ghost use Rattle.vt_grace.specs.Values.{PassValue};
 
     ghost Value = { PassValue };
 
     ghost view = { λ p. record { table = p.seat.table_id; view = pass_at p.seat } };
 
-    ghost invariant = { λ p. IsPassing p.seat × IsIdle p.seat p.sampler };
+    ghost invariant = { λ p. IsPassing p.seat × HoldsNothing p.seat p.sampler };
 }
 
 /// A version that a sampler holds. Contracts see of which table it is, the version, and the view of its pass.

@@ -6,7 +6,7 @@ ghost use Rattle.vt_grace.specs.WriterViews.{is_out, version_of, after_look, aft
 ghost use Rattle.vt_grace.specs.Giving.{after_giving, after_return, new_pass};
 ghost use Rattle.vt_journal.specs.Limits.{most_versions};
 ghost use Rattle.vt_grace.specs.Sound.{IsSound};
-ghost use Rattle.vt_grace.specs.Banks.{MayWriteNext, MayFill, MayPublish};
+ghost use Rattle.vt_grace.specs.Banks.{MayWriteNext, MayFill, MayPublishBank};
 ghost use Rattle.vt_grace.specs.Tokens.{IsPassOf, IsWriterOf};
 
 use crate::places::{word_of_entry, word_of_texel};
@@ -71,7 +71,7 @@ impl WriterSeat {
     /// Publishes the next version, which a change makes: the change is legal next, and the bank of the next version is as it says.
     pub fn publish(&mut self, words: &Words, change: Change)
         requires of { IsWriterOf words.now self.old }
-        requires asked { MayPublish self.old.view change }
+        requires asked { MayPublishBank self.old.view change }
         requires room { version_of self.old.view < most_versions }
         ensures of { IsWriterOf words.now self.new }
         ensures sound { IsSound self.new.view }

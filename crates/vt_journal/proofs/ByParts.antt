@@ -14,15 +14,15 @@ use Rattle.vt_journal.specs.declared.changes.RowLine.{RowLine}
 use Rattle.vt_journal.specs.declared.lines.Line.TheVariants.{Makes}
 use Rattle.vt_journal.specs.Changes.{Pinned}
 use Rattle.vt_journal.specs.JournalText.{Pass, Content, changes_of, passes_changes, pass_lines, head_lines, content_changes, pinned_change, pinned_changes}
-use Rattle.vt_journal.specs.JournalFlaws.{Reading, nothing_read, AreAdmitted, after_all, IsComplete, IsLawful, pinned_by}
+use Rattle.vt_journal.specs.JournalFlaws.{Reading, nothing_read, AreAdmitted, after_all, IsComplete, IsLawfulJournal, pinned_by}
 use Rattle.vt_journal.specs.JournalReading.{head_reading}
 use Rattle.vt_journal.specs.Following.{AreEventsAfter, ArePassesAfter, IsLawfulByParts}
 use Rattle.vt_journal.proofs.Versions.{pinned-more}
 use Rattle.vt_journal.proofs.Stepping.{admitted-append, admitted-parts, after_all-append}
 use Rattle.vt_journal.proofs.Events.{pinned_stays}
 use Rattle.vt_journal.proofs.Heading.{lines_to, pinned_by_first}
-use Rattle.vt_journal.proofs.Following.{told_by_pass, pass_admitted, pass_complete}
-use Rattle.vt_journal.proofs.Heads.{told_by_head, head_complete, heads_admitted, count_to}
+use Rattle.vt_journal.proofs.Following.{spelled_by_pass, pass_admitted, pass_complete}
+use Rattle.vt_journal.proofs.Heads.{spelled_by_head, head_complete, heads_admitted, count_to}
 use Rattle.vt_journal.proofs.Reversing.{pass_next}
 
 abbrev made : List Change → ℕ → ℕ → ℕ → List RowLine → Reading
@@ -39,15 +39,15 @@ passes_admitted s height pinned r [] whole by some all = (tt, whole)
 passes_admitted s height pinned r (p ∷ ps) whole by some all =
     let next = made (r.changes ++ changes_of p.events) p.pass p.picture p.start p.rows in
     let here = pass_admitted s height pinned r p whole by some all.0 in
-    let done : IsComplete s height next = subst (IsComplete s height) (told_by_pass r p) (pass_complete s height pinned r p all.0) in
+    let done : IsComplete s height next = subst (IsComplete s height) (spelled_by_pass r p) (pass_complete s height pinned r p all.0) in
     let follow : ArePassesAfter s height pinned (r.changes ++ changes_of p.events) p.pass p.picture ps = subst
     (λ n. ArePassesAfter s height pinned (r.changes ++ changes_of p.events) n p.picture ps) (sym all.0.pass_is) all.1 in
     let rest = passes_admitted s height pinned next ps done (pinned_stays s r.changes (changes_of p.events) some
     ∙ by) (more_changes r.changes (changes_of p.events) some) follow in (
       admitted-append s height r (pass_lines p) (flat_map pass_lines ps) here
-          (subst (λ (x : Reading). AreAdmitted s height x (flat_map pass_lines ps)) (sym (told_by_pass r p)) rest.0),
+          (subst (λ (x : Reading). AreAdmitted s height x (flat_map pass_lines ps)) (sym (spelled_by_pass r p)) rest.0),
       subst (IsComplete s height) (sym (after_all-append r (pass_lines p) (flat_map pass_lines ps)
-          ∙ ap (λ (x : Reading). after_all x (flat_map pass_lines ps)) (told_by_pass r p))) rest.1,
+          ∙ ap (λ (x : Reading). after_all x (flat_map pass_lines ps)) (spelled_by_pass r p))) rest.1,
     )
 
 -- before a pass, or at the end, none is missing
@@ -69,12 +69,12 @@ passes_follow s height pinned r (p ∷ ps) by some all whole =
     let one = pass_next s height pinned r p parts.0 done by some in
     let rest = passes_follow s height pinned next ps (pinned_stays s r.changes (changes_of p.events) some
     ∙ by) (more_changes r.changes (changes_of p.events) some)
-    (subst (λ (x : Reading). AreAdmitted s height x (flat_map pass_lines ps)) (told_by_pass r p) parts.1)
-    (subst (λ (x : Reading). IsComplete s height (after_all x (flat_map pass_lines ps))) (told_by_pass r p) end) in
+    (subst (λ (x : Reading). AreAdmitted s height x (flat_map pass_lines ps)) (spelled_by_pass r p) parts.1)
+    (subst (λ (x : Reading). IsComplete s height (after_all x (flat_map pass_lines ps))) (spelled_by_pass r p) end) in
     (one, subst (λ n. ArePassesAfter s height pinned (r.changes ++ changes_of p.events) n p.picture ps) one.pass_is rest)
 
 -- a content that is lawful by its parts
-pub lawful_by_parts : (s : Shape) (height : ℕ) (c : Content) → IsLawfulByParts s height c → IsLawful s height c
+pub lawful_by_parts : (s : Shape) (height : ℕ) (c : Content) → IsLawfulByParts s height c → IsLawfulJournal s height c
 lawful_by_parts s height c by =
     let r = head_reading (pinned_changes s c.pinned) in
     let first = pinned_by_first s c.pinned c.pinned by.head.some by.head.few in
@@ -83,9 +83,9 @@ lawful_by_parts s height c by =
     record {
       admitted = admitted-append s height nothing_read (head_lines s c.pinned) (flat_map pass_lines c.passes)
           (heads_admitted s height c.pinned c.pinned by.head (omega arith))
-          (subst (λ (x : Reading). AreAdmitted s height x (flat_map pass_lines c.passes)) (sym (told_by_head s c.pinned)) rest.0);
+          (subst (λ (x : Reading). AreAdmitted s height x (flat_map pass_lines c.passes)) (sym (spelled_by_head s c.pinned)) rest.0);
       complete = subst (IsComplete s height) (sym (after_all-append nothing_read (head_lines s c.pinned) (flat_map pass_lines c.passes)
-          ∙ ap (λ (x : Reading). after_all x (flat_map pass_lines c.passes)) (told_by_head s c.pinned))) rest.1;
+          ∙ ap (λ (x : Reading). after_all x (flat_map pass_lines c.passes)) (spelled_by_head s c.pinned))) rest.1;
     }
 
 -- each line of a head names a frame within its bound
@@ -104,16 +104,16 @@ pinned_by_most : (s : Shape) (js : List Change) → pinned_by s js ≤ pages_of 
 pinned_by_most s [] = omega arith
 pinned_by_most s (j ∷ js) = omega arith
 
-pub parts_of_lawful : (s : Shape) (height : ℕ) (c : Content) → IsLawful s height c → IsLawfulByParts s height c
+pub parts_of_lawful : (s : Shape) (height : ℕ) (c : Content) → IsLawfulJournal s height c → IsLawfulByParts s height c
 parts_of_lawful s height c lawful =
     let js = pinned_changes s c.pinned in
     let r = head_reading js in
     let parts = admitted-parts s height nothing_read (head_lines s c.pinned) (flat_map pass_lines c.passes) lawful.admitted in
     let all : AreAdmitted s height r (flat_map pass_lines c.passes) = subst (λ (x : Reading). AreAdmitted s height x (flat_map pass_lines c.passes))
-    (told_by_head s c.pinned) parts.1 in
+    (spelled_by_head s c.pinned) parts.1 in
     let end : IsComplete s height (after_all r (flat_map pass_lines c.passes)) =
     subst (IsComplete s height) (after_all-append nothing_read (head_lines s c.pinned) (flat_map pass_lines c.passes)
-    ∙ ap (λ (x : Reading). after_all x (flat_map pass_lines c.passes)) (told_by_head s c.pinned)) lawful.complete in
+    ∙ ap (λ (x : Reading). after_all x (flat_map pass_lines c.passes)) (spelled_by_head s c.pinned)) lawful.complete in
     let whole = complete_before s height r c.passes all end in
     let count = count_to s c.pinned c.pinned in
     let some : 1 ≤ length js = (whole.head refl).0 in

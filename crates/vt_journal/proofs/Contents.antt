@@ -12,7 +12,7 @@ use Rattle.vt_journal.specs.declared.lines.Line.{Line}
 use Rattle.vt_journal.specs.declared.lines.Line.TheVariants.{Begins, Makes, Loses, Draws}
 use Rattle.vt_journal.specs.declared.parse.JournalError.{JournalError}
 use Rattle.vt_journal.specs.JournalText.{Pass, Content, event_lines, pass_lines, head_lines, content_lines, lines_text, head_text, pass_text, journal_text, pinned_change, IsLineInChain}
-use Rattle.vt_journal.specs.JournalFlaws.{Reading, nothing_read, after, AreAdmitted, IsFlawFrom, IsLawful, IsJournalFlaw}
+use Rattle.vt_journal.specs.JournalFlaws.{Reading, nothing_read, after, AreAdmitted, IsJournalFlawFrom, IsLawfulJournal, IsJournalFlaw}
 use Rattle.vt_journal.specs.JournalReading.{line_bytes}
 use Rattle.vt_journal.proofs.SpelledLines.{fields_of-line, lines_of-text}
 use Rattle.vt_journal.proofs.EventLines.{lines_text-append}
@@ -126,7 +126,7 @@ text_of_content s c =
     ∙ sym (lines_text-append s (head_lines s c.pinned) (flat_map pass_lines c.passes))
 
 -- one text is that of one content
-pub content_unique : (s : Shape) (height : ℕ) (c d : Content) → 1 ≤ s.tile → IsLawful s height c → IsLawful s height d
+pub content_unique : (s : Shape) (height : ℕ) (c d : Content) → 1 ≤ s.tile → IsLawfulJournal s height c → IsLawfulJournal s height d
     → journal_text s c ≡ journal_text s d → c ≡ d
 content_unique s height c d tile a b e =
     content_by_lines s c d (lines_by_text s (content_lines s c) (content_lines s d) tile
@@ -139,10 +139,10 @@ lines_of_content s text c e = ap lines_of (e ∙ text_of_content s c) ∙ lines_
 
 -- the text of a lawful content has no flaw
 pub lawful_has_no_flaw : (s : Shape) (height : ℕ) (text : List ℕ) (c : Content) (e : JournalError) → 1 ≤ s.tile
-    → IsLawful s height c → text ≡ journal_text s c → IsJournalFlaw s height text e → ⊥
+    → IsLawfulJournal s height c → text ≡ journal_text s c → IsJournalFlaw s height text e → ⊥
 lawful_has_no_flaw s height text c e tile lawful same flaw =
     no_flaw s height 1 nothing_read (content_lines s c) e tile lawful.admitted lawful.complete
-    (subst (λ ls. IsFlawFrom s height 1 nothing_read ls e) (lines_of_content s text c same) flaw)
+    (subst (λ ls. IsJournalFlawFrom s height 1 nothing_read ls e) (lines_of_content s text c same) flaw)
 
 pub journal_flaw_unique : (s : Shape) (height : ℕ) (text : List ℕ) (e f : JournalError) → 1 ≤ s.tile
     → IsJournalFlaw s height text e → IsJournalFlaw s height text f → e ≡ f

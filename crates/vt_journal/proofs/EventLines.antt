@@ -72,10 +72,10 @@ rows_more s old before after rows i d within was next =
 pub pass_whole : (s : Shape) (old one two three : List ℕ) (pass : Pass) → one ≡ old ++ line_text s (Begins pass.pass pass.picture pass.start)
     → two ≡ one ++ lines_text s (event_lines pass.start pass.events) → three ≡ two ++ lines_text s (map Draws pass.rows)
     → three ≡ old ++ pass_text s pass
-pass_whole s old one two three pass begun told drawn =
+pass_whole s old one two three pass begun spelled drawn =
     let begins = line_text s (Begins pass.pass pass.picture pass.start) in
     let events = lines_text s (event_lines pass.start pass.events) in
     let rows = lines_text s (map Draws pass.rows) in
-    drawn ∙ ap (λ t. t ++ rows) (told ∙ ap (λ t. t ++ events) begun) ∙ append_assoc (old ++ begins) events rows
+    drawn ∙ ap (λ t. t ++ rows) (spelled ∙ ap (λ t. t ++ events) begun) ∙ append_assoc (old ++ begins) events rows
     ∙ append_assoc old begins (events ++ rows)
     ∙ ap (λ t. old ++ (begins ++ t)) (sym (lines_text-append s (event_lines pass.start pass.events) (map Draws pass.rows)))

@@ -17,8 +17,8 @@ use Rattle.vt_text.specs.Lines.{lines_of}
 use Rattle.vt_journal.specs.Changes.{newest}
 use Rattle.vt_journal.specs.Kept.{KeptView}
 use Rattle.vt_journal.specs.JournalText.{changes_of, event_lines}
-use Rattle.vt_journal.specs.JournalFlaws.{Reading, Admits, after, after_all, pinned_by, IsFlawFrom}
-use Rattle.vt_journal.specs.JournalReading.{IsReadable, IsLineRead, Advances, IsRefusal, IsEventChange, IsInPass, IsEventAdded, AreSameButEvents, AreEventsRead, reading_of}
+use Rattle.vt_journal.specs.JournalFlaws.{Reading, Admits, after, after_all, pinned_by, IsJournalFlawFrom}
+use Rattle.vt_journal.specs.JournalReading.{IsReadable, IsLineRead, Advances, IsJournalRefusal, IsEventChange, IsInPass, IsEventAdded, AreSameButEvents, AreEventsRead, reading_of}
 use Rattle.vt_journal.proofs.EventLines.{changes_of-append, event_lines-append}
 use Rattle.vt_journal.proofs.Stepping.{advance_line, advance_more, refused_later, refused_read}
 
@@ -81,7 +81,7 @@ module _ (s : Shape) (height : ℕ) (text : List ℕ) where
   -- a change that was read and may not come there
   pub change_not_read : (changes : List Change) (pages pinned : ℕ) (pass : PassText) (at number v : ℕ) (c : Change) (next_at next_number : ℕ)
       → IsInPass s height changes pages pinned pass → IsLineRead s text at number (Makes v c) next_at next_number → ¬ IsEventChange s changes pinned v c
-      → IsFlawFrom s height number (reading_of changes pass) (lines_of (drop at text)) (BadLine number)
+      → IsJournalFlawFrom s height number (reading_of changes pass) (lines_of (drop at text)) (BadLine number)
   change_not_read changes pages pinned pass at number v c next_at next_number is read never =
       refused_read s height text (reading_of changes pass) at number (Makes v c) next_at next_number is.small.tile read
       (λ a. never (admitted_change s height changes pages pinned pass v c is a))
@@ -89,7 +89,7 @@ module _ (s : Shape) (height : ℕ) (text : List ℕ) where
   -- a lost page that was read and is mapped
   pub loss_not_read : (changes : List Change) (pages pinned : ℕ) (pass : PassText) (at number p : ℕ) (next_at next_number : ℕ)
       → IsInPass s height changes pages pinned pass → IsLineRead s text at number (Loses p) next_at next_number → newest changes p ≢ None
-      → IsFlawFrom s height number (reading_of changes pass) (lines_of (drop at text)) (BadLine number)
+      → IsJournalFlawFrom s height number (reading_of changes pass) (lines_of (drop at text)) (BadLine number)
   loss_not_read changes pages pinned pass at number p next_at next_number is read mapped =
       refused_read s height text (reading_of changes pass) at number (Loses p) next_at next_number is.small.tile read (λ a. mapped a.2)
 
@@ -107,7 +107,7 @@ module _ (s : Shape) (height : ℕ) (text : List ℕ) where
         ((is.in_pass, is.no_rows), read.says.readable, none);
   }
 
-  -- what was told after events
+  -- what was read after events
   pub reading_after : (before mid : List Change) (pass pass_mid : PassText) (at number at1 number1 : ℕ)
       → (a : AreEventsRead s height text before mid pass pass_mid at number at1 number1)
       → reading_of mid pass_mid ≡ after_all (reading_of before pass) (event_lines (length before) a.events)
@@ -150,10 +150,10 @@ module _ (s : Shape) (height : ℕ) (text : List ℕ) where
   -- a refusal after events
   pub refused_after : (before mid : List Change) (pass pass_mid : PassText) (at number at1 number1 : ℕ) (e : JournalError)
       → AreEventsRead s height text before mid pass pass_mid at number at1 number1
-      → IsRefusal s height text (reading_of mid pass_mid) at1 number1 e → IsRefusal s height text (reading_of before pass) at number e
+      → IsJournalRefusal s height text (reading_of mid pass_mid) at1 number1 e → IsJournalRefusal s height text (reading_of before pass) at number e
   refused_after before mid pass pass_mid at number at1 number1 e a refusal =
       refused_later s height text (reading_of before pass) at number (event_lines (length before) a.events) at1 number1 e a.advances
-      (subst (λ (r : Reading). IsRefusal s height text r at1 number1 e) (reading_after before mid pass pass_mid at number at1 number1 a) refusal)
+      (subst (λ (r : Reading). IsJournalRefusal s height text r at1 number1 e) (reading_after before mid pass pass_mid at number at1 number1 a) refusal)
 
   -- a pass stays without rows
   pub in_pass_still : (before mid : List Change) (pages pages_mid pinned : ℕ) (pass pass_mid : PassText) (at number at1 number1 : ℕ)

@@ -70,9 +70,9 @@ rows_admitted s height passes picture start changes before (row ∷ rest) whole 
     )
 
 -- what a pass tells
-pub told_by_pass : (r : Reading) (p : Pass)
+pub spelled_by_pass : (r : Reading) (p : Pass)
     → after_all r (pass_lines p) ≡ made (r.changes ++ changes_of p.events) p.pass p.picture p.start p.rows
-told_by_pass r p =
+spelled_by_pass r p =
     let b = after r (Begins p.pass p.picture p.start) in
     after_all-append b (event_lines p.start p.events) (map Draws p.rows)
     ∙ ap (λ (x : Reading). after_all x (map Draws p.rows)) (after_events b p.start p.events)
@@ -99,4 +99,4 @@ pass_admitted s height pinned r p whole by some next =
 pub pass_complete : (s : Shape) (height pinned : ℕ) (r : Reading) (p : Pass)
     → IsPassAfter s height pinned r.changes r.passes r.picture p → IsComplete s height (after_all r (pass_lines p))
 pass_complete s height pinned r p next =
-    subst (IsComplete s height) (sym (told_by_pass r p)) (record { head = λ none. absurd (omega (arith, next.pass_is, none)); rows = λ some. next.rows.count })
+    subst (IsComplete s height) (sym (spelled_by_pass r p)) (record { head = λ none. absurd (omega (arith, next.pass_is, none)); rows = λ some. next.rows.count })

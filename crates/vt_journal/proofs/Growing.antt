@@ -12,7 +12,7 @@ use Rattle.vt_journal.specs.declared.lines.Line.{Line}
 use Rattle.vt_journal.specs.declared.lines.Line.TheVariants.{Begins, Makes, Loses, Draws}
 use Rattle.vt_journal.specs.Changes.{AreInTurn}
 use Rattle.vt_journal.specs.JournalText.{Pass, Content, content_lines, content_changes, pinned_change, pinned_changes, passes_changes, changes_of, event_lines, pass_lines, head_lines}
-use Rattle.vt_journal.specs.JournalFlaws.{Reading, nothing_read, Admits, after, AreAdmitted, after_all, IsComplete, IsLawful}
+use Rattle.vt_journal.specs.JournalFlaws.{Reading, nothing_read, Admits, after, AreAdmitted, after_all, IsComplete, IsLawfulJournal}
 use Rattle.vt_journal.proofs.Versions.{in_turn-none, in_turn-more}
 use Rattle.vt_journal.proofs.Stepping.{admitted-append, after_all-append}
 
@@ -37,12 +37,12 @@ lines_changes (Makes v c ∷ ls) = c ∷ lines_changes ls
 lines_changes (Loses p ∷ ls) = lines_changes ls
 lines_changes (Draws row ∷ ls) = lines_changes ls
 
-told_changes : (r : Reading) (ls : List Line) → (after_all r ls).changes ≡ r.changes ++ lines_changes ls
-told_changes r [] = sym (append-nil r.changes)
-told_changes r (Begins n k v ∷ ls) = told_changes (after r (Begins n k v)) ls
-told_changes r (Makes v c ∷ ls) = told_changes (after r (Makes v c)) ls ∙ append_assoc r.changes (c ∷ []) (lines_changes ls)
-told_changes r (Loses p ∷ ls) = told_changes r ls
-told_changes r (Draws row ∷ ls) = told_changes (after r (Draws row)) ls
+spelled_changes : (r : Reading) (ls : List Line) → (after_all r ls).changes ≡ r.changes ++ lines_changes ls
+spelled_changes r [] = sym (append-nil r.changes)
+spelled_changes r (Begins n k v ∷ ls) = spelled_changes (after r (Begins n k v)) ls
+spelled_changes r (Makes v c ∷ ls) = spelled_changes (after r (Makes v c)) ls ∙ append_assoc r.changes (c ∷ []) (lines_changes ls)
+spelled_changes r (Loses p ∷ ls) = spelled_changes r ls
+spelled_changes r (Draws row ∷ ls) = spelled_changes (after r (Draws row)) ls
 
 changes-append : (ls ms : List Line) → lines_changes (ls ++ ms) ≡ lines_changes ls ++ lines_changes ms
 changes-append [] ms = refl
@@ -79,15 +79,15 @@ head_changes s pinned [] = refl
 head_changes s pinned (i ∷ places) = ap (λ cs. pinned_change s pinned i ∷ cs) (head_changes s pinned places)
 
 -- what all lines of a content tell is the changes of its journal
-pub told_content : (s : Shape) (c : Content) → (after_all nothing_read (content_lines s c)).changes ≡ content_changes s c
-told_content s c =
-    told_changes nothing_read (content_lines s c) ∙ changes-append (head_lines s c.pinned) (flat_map pass_lines c.passes)
+pub spelled_content : (s : Shape) (c : Content) → (after_all nothing_read (content_lines s c)).changes ≡ content_changes s c
+spelled_content s c =
+    spelled_changes nothing_read (content_lines s c) ∙ changes-append (head_lines s c.pinned) (flat_map pass_lines c.passes)
     ∙ ap (λ cs. cs ++ lines_changes (flat_map pass_lines c.passes)) (head_changes s c.pinned (range_with_len 0 c.pinned))
     ∙ ap (λ cs. pinned_changes s c.pinned ++ cs) (all_pass_changes c.passes)
 
 -- the journal of a lawful content has its changes in turn
-pub lawful_in_turn : (s : Shape) (height : ℕ) (c : Content) → IsLawful s height c → AreInTurn (content_changes s c)
-lawful_in_turn s height c lawful = subst AreInTurn (told_content s c) (lines_in_turn s height nothing_read (content_lines s c) lawful.admitted in_turn-none)
+pub lawful_in_turn : (s : Shape) (height : ℕ) (c : Content) → IsLawfulJournal s height c → AreInTurn (content_changes s c)
+lawful_in_turn s height c lawful = subst AreInTurn (spelled_content s c) (lines_in_turn s height nothing_read (content_lines s c) lawful.admitted in_turn-none)
 
 -- a content with one pass more
 abbrev pub with_pass : Content → Pass → Content
@@ -99,9 +99,9 @@ lines_more s c p =
     ∙ ap (λ ls. head_lines s c.pinned ++ ls) (ap (λ ls. flat_map pass_lines c.passes ++ ls) (sym (append-nil (pass_lines p)))
     ∙ sym (flat_map-append pass_lines c.passes (p ∷ [])))
 
-pub lawful_more : (s : Shape) (height : ℕ) (c : Content) (p : Pass) → IsLawful s height c
+pub lawful_more : (s : Shape) (height : ℕ) (c : Content) (p : Pass) → IsLawfulJournal s height c
     → AreAdmitted s height (after_all nothing_read (content_lines s c)) (pass_lines p)
-    → IsComplete s height (after_all (after_all nothing_read (content_lines s c)) (pass_lines p)) → IsLawful s height (with_pass c p)
+    → IsComplete s height (after_all (after_all nothing_read (content_lines s c)) (pass_lines p)) → IsLawfulJournal s height (with_pass c p)
 lawful_more s height c p lawful admitted complete = record {
   admitted = subst (AreAdmitted s height nothing_read) (lines_more s c p)
       (admitted-append s height nothing_read (content_lines s c) (pass_lines p) lawful.admitted admitted);

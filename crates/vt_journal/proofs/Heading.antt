@@ -15,8 +15,8 @@ use Rattle.vt_journal.specs.declared.parse.JournalError.{JournalError}
 use Rattle.vt_journal.specs.declared.parse.JournalError.TheVariants.{BadLine}
 use Rattle.vt_journal.specs.Changes.{newest, IsNext}
 use Rattle.vt_journal.specs.JournalText.{pinned_change}
-use Rattle.vt_journal.specs.JournalFlaws.{Reading, nothing_read, Admits, after, after_all, IsComplete, IsFlawFrom, pinned_by}
-use Rattle.vt_journal.specs.JournalReading.{IsReadable, IsLineRead, IsNoLine, Advances, IsRefusal, IsSmall, IsSource, IsHeadBegun, IsHeadWhole, head_reading}
+use Rattle.vt_journal.specs.JournalFlaws.{Reading, nothing_read, Admits, after, after_all, IsComplete, IsJournalFlawFrom, pinned_by}
+use Rattle.vt_journal.specs.JournalReading.{IsReadable, IsLineRead, IsNoLine, Advances, IsJournalRefusal, IsSmall, IsSource, IsHeadBegun, IsHeadWhole, head_reading}
 use Rattle.vt_journal.proofs.Versions.{newest-none}
 use Rattle.vt_journal.proofs.Stepping.{advance_line, advance_more, refused_later, refused_unread, refused_read}
 
@@ -38,10 +38,10 @@ after_heads s pinned (i ∷ places) r =
     after_heads s pinned places (after r (Makes (i + 1) (pinned_change s pinned i)))
     ∙ ap (λ cs. made cs r.passes r.picture r.start r.rows) (append_assoc r.changes (pinned_change s pinned i ∷ []) (map (pinned_change s pinned) places))
 
--- what the lines told
-pub told : (s : Shape) (pinned place : ℕ) (changes : List Change) → changes ≡ changes_to s pinned place
+-- what the lines said
+pub spelled_heads : (s : Shape) (pinned place : ℕ) (changes : List Change) → changes ≡ changes_to s pinned place
     → after_all nothing_read (lines_to s pinned place) ≡ head_reading changes
-told s pinned place changes is = after_heads s pinned (range_with_len 0 place) nothing_read ∙ ap head_reading (sym is)
+spelled_heads s pinned place changes is = after_heads s pinned (range_with_len 0 place) nothing_read ∙ ap head_reading (sym is)
 
 -- how many pages are pinned by the first of their changes
 pub pinned_by_first : (s : Shape) (pinned place : ℕ) → 1 ≤ place → pinned ≤ pages_of s
@@ -60,7 +60,7 @@ module _ (s : Shape) (height : ℕ) (text : List ℕ) (limits : IsSource s heigh
   nothing_incomplete whole = omega (arith, (whole.head refl).0)
 
   -- no first line
-  pub no_first : IsNoLine s text 0 → IsFlawFrom s height 1 nothing_read (lines_of (drop 0 text)) (BadLine 1)
+  pub no_first : IsNoLine s text 0 → IsJournalFlawFrom s height 1 nothing_read (lines_of (drop 0 text)) (BadLine 1)
   no_first none = refused_unread s height text nothing_read 0 1 nothing_small none (λ _. nothing_incomplete)
 
   -- what the first line has to be
@@ -76,7 +76,7 @@ module _ (s : Shape) (height : ℕ) (text : List ℕ) (limits : IsSource s heigh
 
   -- another first line
   pub other_first : (line : Line) (next_at next_number : ℕ) → IsLineRead s text 0 1 line next_at next_number → ((p : ℕ) → line ≢ Makes 1 (Map p 0))
-      → IsFlawFrom s height 1 nothing_read (lines_of (drop 0 text)) (BadLine 1)
+      → IsJournalFlawFrom s height 1 nothing_read (lines_of (drop 0 text)) (BadLine 1)
   other_first line next_at next_number read other =
       refused_read s height text nothing_read 0 1 line next_at next_number tile read (λ a. let first = first_line line a in other first.0 first.1)
 
@@ -121,12 +121,12 @@ module _ (s : Shape) (height : ℕ) (text : List ℕ) (limits : IsSource s heigh
     incomplete below whole = omega (arith, (whole.head refl).1, count, by_first)
 
     -- a refusal after the lines so far
-    pub head_refused : (e : JournalError) → IsRefusal s height text (head_reading changes) at number e → IsRefusal s height text nothing_read 0 1 e
+    pub head_refused : (e : JournalError) → IsJournalRefusal s height text (head_reading changes) at number e → IsJournalRefusal s height text nothing_read 0 1 e
     head_refused e refusal =
         refused_later s height text nothing_read 0 1 (lines_to s pinned place) at number e begun.advances
-        (subst (λ (r : Reading). IsRefusal s height text r at number e) (sym (told s pinned place changes begun.changes_are)) refusal)
+        (subst (λ (r : Reading). IsJournalRefusal s height text r at number e) (sym (spelled_heads s pinned place changes begun.changes_are)) refusal)
 
-    pub no_further : place < pinned → IsNoLine s text at → IsFlawFrom s height number (head_reading changes) (lines_of (drop at text)) (BadLine number)
+    pub no_further : place < pinned → IsNoLine s text at → IsJournalFlawFrom s height number (head_reading changes) (lines_of (drop at text)) (BadLine number)
     no_further below none = refused_unread s height text (head_reading changes) at number small none (λ _. incomplete below)
 
     -- what the next line has to be
@@ -151,7 +151,7 @@ module _ (s : Shape) (height : ℕ) (text : List ℕ) (limits : IsSource s heigh
 
     pub other_further : (line : Line) (next_at next_number : ℕ) → place < pinned → IsLineRead s text at number line next_at next_number
         → (line ≡ Makes (place + 1) (Map (pages_of s - pinned + place) place) → ¬ IsNext (newest changes) (Map (pages_of s - pinned + place) place))
-        → IsFlawFrom s height number (head_reading changes) (lines_of (drop at text)) (BadLine number)
+        → IsJournalFlawFrom s height number (head_reading changes) (lines_of (drop at text)) (BadLine number)
     other_further line next_at next_number below read other =
         refused_read s height text (head_reading changes) at number line next_at next_number tile read
         (λ a. let next = further_line line below a in other next.0 next.1)
@@ -176,7 +176,7 @@ module _ (s : Shape) (height : ℕ) (text : List ℕ) (limits : IsSource s heigh
         let rest : Advances s height text (after_all nothing_read (lines_to s pinned place)) at number (Makes (place + 1) (Map page place) ∷ [])
         next_at next_number =
         subst (λ (r : Reading). Advances s height text r at number (Makes (place + 1) (Map page place) ∷ []) next_at next_number)
-        (sym (told s pinned place changes begun.changes_are)) one in
+        (sym (spelled_heads s pinned place changes begun.changes_are)) one in
         record {
           some = omega (arith, begun.some);
           most = omega (arith, below);

@@ -10,12 +10,12 @@ use Rattle.vt_journal.specs.declared.lines.Line.{Line}
 use Rattle.vt_journal.specs.declared.lines.Line.TheVariants.{Makes}
 use Rattle.vt_journal.specs.Changes.{Table, changed, newest, IsNext}
 use Rattle.vt_journal.specs.JournalText.{pinned_change, head_lines, pinned_changes}
-use Rattle.vt_journal.specs.JournalFlaws.{Reading, nothing_read, Admits, AreAdmitted, after_all, IsComplete, IsLawful, pinned_by}
+use Rattle.vt_journal.specs.JournalFlaws.{Reading, nothing_read, Admits, AreAdmitted, after_all, IsComplete, IsLawfulJournal, pinned_by}
 use Rattle.vt_journal.specs.JournalReading.{head_reading}
 use Rattle.vt_journal.specs.Following.{MayBePinned}
 use Rattle.vt_journal.proofs.Versions.{newest-none, newest-more, mapped_after_map}
 use Rattle.vt_journal.proofs.Stepping.{admitted-append}
-use Rattle.vt_journal.proofs.Heading.{lines_to, changes_to, told, pinned_by_first}
+use Rattle.vt_journal.proofs.Heading.{lines_to, changes_to, spelled_heads, pinned_by_first}
 
 -- no page is mapped by the maps of the pinned pages but these, each to its own frame
 newest_of_pinned : (s : Shape) (pinned n q f : ℕ) → newest (map (pinned_change s pinned) (range_with_len 0 n)) q ≡ Some f
@@ -73,12 +73,12 @@ heads_admitted s height pinned (suc n) may low =
     ) in
     subst (AreAdmitted s height nothing_read) (sym grown)
     (admitted-append s height nothing_read (lines_to s pinned n) (Makes (n + 1) (pinned_change s pinned n) ∷ []) before
-    (subst (λ (r : Reading). AreAdmitted s height r (Makes (n + 1) (pinned_change s pinned n) ∷ [])) (sym (told s pinned n js refl)) (one, tt)))
+    (subst (λ (r : Reading). AreAdmitted s height r (Makes (n + 1) (pinned_change s pinned n) ∷ [])) (sym (spelled_heads s pinned n js refl)) (one, tt)))
 
--- what the head told
-pub told_by_head : (s : Shape) (pinned : ℕ)
+-- what the head said
+pub spelled_by_head : (s : Shape) (pinned : ℕ)
     → after_all nothing_read (head_lines s pinned) ≡ head_reading (pinned_changes s pinned)
-told_by_head s pinned = told s pinned pinned (pinned_changes s pinned) refl
+spelled_by_head s pinned = spelled_heads s pinned pinned (pinned_changes s pinned) refl
 
 pub head_complete : (s : Shape) (height pinned : ℕ) → MayBePinned s pinned
     → IsComplete s height (head_reading (pinned_changes s pinned))
@@ -89,11 +89,11 @@ head_complete s height pinned may =
 
 -- a head alone
 pub head_lawful : (s : Shape) (height pinned : ℕ) → MayBePinned s pinned
-    → IsLawful s height (record { pinned = pinned; passes = [] })
+    → IsLawfulJournal s height (record { pinned = pinned; passes = [] })
 head_lawful s height pinned may =
     let same : head_lines s pinned ≡ head_lines s pinned ++ [] = sym (append-nil (head_lines s pinned)) in
     record {
       admitted = subst (AreAdmitted s height nothing_read) same (heads_admitted s height pinned pinned may (omega arith));
       complete = subst (λ (ls : List Line). IsComplete s height (after_all nothing_read ls)) same
-          (subst (IsComplete s height) (sym (told_by_head s pinned)) (head_complete s height pinned may));
+          (subst (IsComplete s height) (sym (spelled_by_head s pinned)) (head_complete s height pinned may));
     }

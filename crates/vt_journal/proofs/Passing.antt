@@ -16,8 +16,8 @@ use Rattle.vt_journal.specs.declared.parse.JournalError.{JournalError}
 use Rattle.vt_journal.specs.declared.parse.JournalError.TheVariants.{BadLine}
 use Rattle.vt_journal.specs.Passes.{pass_of}
 use Rattle.vt_journal.specs.JournalText.{Pass, changes_of, event_lines, pass_lines, passes_changes}
-use Rattle.vt_journal.specs.JournalFlaws.{Reading, Admits, after, after_all, IsComplete, IsNextPicture, IsFlawFrom}
-use Rattle.vt_journal.specs.JournalReading.{IsCursor, IsLineRead, IsNoLine, Advances, IsRefusal, IsBetween, IsNextPass, IsInPass, IsAwaited, AreEventsRead, IsPassFilled, IsPassRead, IsHeadWhole, ArePassesRead, IsNoEvent, IsNoEventAt, reading_of, with_rows, head_reading}
+use Rattle.vt_journal.specs.JournalFlaws.{Reading, Admits, after, after_all, IsComplete, IsNextPicture, IsJournalFlawFrom}
+use Rattle.vt_journal.specs.JournalReading.{IsCursor, IsLineRead, IsNoLine, Advances, IsJournalRefusal, IsBetweenPasses, IsNextPassLine, IsInPass, IsAwaited, AreEventsRead, IsPassFilled, IsPassRead, IsHeadWhole, ArePassesRead, IsNoEvent, IsNoEventAt, reading_of, with_rows, head_reading}
 use Rattle.vt_journal.proofs.Stepping.{advance_none, advance_more, advance_line, refused_later, refused_unread, refused_read, some_lines, after_all-append}
 use Rattle.vt_journal.proofs.Events.{after_events, reading_after, refused_after}
 use Rattle.vt_journal.proofs.Rows.{after_rows}
@@ -27,8 +27,8 @@ made changes passes picture start rows = record { changes = changes; passes = pa
 
 -- the numbers of the next pass are a line that may come next
 pub begin_admitted : (s : Shape) (height : ℕ) (changes : List Change) (version passes before pass picture start : ℕ) (r : Reading)
-    → IsBetween s height changes passes before r → version ≡ length changes
-    → IsNextPass version passes before pass picture start → Admits s height r (Begins pass picture start)
+    → IsBetweenPasses s height changes passes before r → version ≡ length changes
+    → IsNextPassLine version passes before pass picture start → Admits s height r (Begins pass picture start)
 begin_admitted s height changes version passes before pass picture start r between newest next = (
   between.complete,
   next.pass_is ∙ ap (λ n. n + 1) (sym between.passes_are),
@@ -38,8 +38,8 @@ begin_admitted s height changes version passes before pass picture start r betwe
 )
 
 pub admitted_begin : (s : Shape) (height : ℕ) (changes : List Change) (version passes before pass picture start : ℕ) (r : Reading)
-    → IsBetween s height changes passes before r → version ≡ length changes
-    → Admits s height r (Begins pass picture start) → IsNextPass version passes before pass picture start
+    → IsBetweenPasses s height changes passes before r → version ≡ length changes
+    → Admits s height r (Begins pass picture start) → IsNextPassLine version passes before pass picture start
 admitted_begin s height changes version passes before pass picture start r between newest a = record {
   pass_is = a.1 ∙ ap (λ n. n + 1) between.passes_are;
   picture_is = subst (λ n. IsNextPicture n before picture) between.passes_are (subst (λ b. IsNextPicture r.passes b picture) between.picture_is a.2);
@@ -65,14 +65,14 @@ only_begin s height r (Loses p) whole quiet other a = let before = a.0 in quiet 
 only_begin s height r (Draws row) whole quiet other a = omega (arith, a.next, a.inside, whole.rows a.in_pass)
 
 module _ (s : Shape) (height : ℕ) (text : List ℕ) (changes : List Change) (passes before : ℕ) (at number : ℕ) (r : Reading)
-    (between : IsBetween s height changes passes before r) where
+    (between : IsBetweenPasses s height changes passes before r) where
   -- no line where the text goes on
-  pub no_begin : at < length text → IsNoLine s text at → IsFlawFrom s height number r (lines_of (drop at text)) (BadLine number)
+  pub no_begin : at < length text → IsNoLine s text at → IsJournalFlawFrom s height number r (lines_of (drop at text)) (BadLine number)
   no_begin more none = refused_unread s height text r at number between.small none (λ e. absurd (omega (arith, length-drop at text, ap length e)))
 
   -- another line than one that begins a pass
   pub other_than_begin : (line : Line) (next_at next_number : ℕ) → IsLineRead s text at number line next_at next_number → ((n k v : ℕ) → line ≢ Begins n k v)
-      → (height ≡ 0 → 1 ≤ passes → IsNoEventAt s text at) → IsFlawFrom s height number r (lines_of (drop at text)) (BadLine number)
+      → (height ≡ 0 → 1 ≤ passes → IsNoEventAt s text at) → IsJournalFlawFrom s height number r (lines_of (drop at text)) (BadLine number)
   other_than_begin line next_at next_number read other none =
       refused_read s height text r at number line next_at next_number between.small.tile read
       (only_begin s height r line between.complete
@@ -82,14 +82,14 @@ module _ (s : Shape) (height : ℕ) (text : List ℕ) (changes : List Change) (p
   -- the beginning of another pass than the next
   pub other_begin : (version pass picture start next_at next_number : ℕ) → version ≡ length changes
       → IsLineRead s text at number (Begins pass picture start) next_at next_number
-      → ¬ IsNextPass version passes before pass picture start → IsFlawFrom s height number r (lines_of (drop at text)) (BadLine number)
+      → ¬ IsNextPassLine version passes before pass picture start → IsJournalFlawFrom s height number r (lines_of (drop at text)) (BadLine number)
   other_begin version pass picture start next_at next_number newest read never =
       refused_read s height text r at number (Begins pass picture start) next_at next_number between.small.tile read
       (λ a. never (admitted_begin s height changes version passes before pass picture start r between newest a))
 
   pub begin_read : (version pass picture start next_at next_number : ℕ) → version ≡ length changes
       → IsLineRead s text at number (Begins pass picture start) next_at next_number
-      → IsNextPass version passes before pass picture start → Advances s height text r at number (Begins pass picture start ∷ []) next_at next_number
+      → IsNextPassLine version passes before pass picture start → Advances s height text r at number (Begins pass picture start ∷ []) next_at next_number
   begin_read version pass picture start next_at next_number newest read next =
       advance_line s height text r at number (Begins pass picture start) next_at next_number read
       (begin_admitted s height changes version passes before pass picture start r between newest next)
@@ -122,9 +122,9 @@ picture_after passes before picture low next = elim (none_or_more passes) [
 
 -- a pass: its beginning, its events and its rows
 module _ (s : Shape) (height : ℕ) (text : List ℕ) (r : Reading) (old mid : List Change) (passes before : ℕ) (fresh pass : PassText)
-    (between : IsBetween s height old passes before r)
+    (between : IsBetweenPasses s height old passes before r)
     (no_events : fresh.events.elements ≡ []) (no_rows : fresh.rows.elements ≡ []) where
-  -- what was told when the pass has begun
+  -- what was read when the pass has begun
   begun_is : after r (Begins fresh.pass fresh.picture fresh.start) ≡ reading_of old fresh
   begun_is = ap (λ cs. made cs fresh.pass fresh.picture fresh.start []) between.changes_are
       ∙ ap (λ rs. made old fresh.pass fresh.picture fresh.start rs) (sym no_rows)
@@ -132,10 +132,10 @@ module _ (s : Shape) (height : ℕ) (text : List ℕ) (r : Reading) (old mid : L
   -- a refusal among its events
   pub events_refused : (at number at1 number1 : ℕ) (e : JournalError)
       → Advances s height text r at number (Begins fresh.pass fresh.picture fresh.start ∷ []) at1 number1
-      → IsRefusal s height text (reading_of old fresh) at1 number1 e → IsRefusal s height text r at number e
+      → IsJournalRefusal s height text (reading_of old fresh) at1 number1 e → IsJournalRefusal s height text r at number e
   events_refused at number at1 number1 e begin refusal =
       refused_later s height text r at number (Begins fresh.pass fresh.picture fresh.start ∷ []) at1 number1 e begin
-      (subst (λ (r : Reading). IsRefusal s height text r at1 number1 e) (sym begun_is) refusal)
+      (subst (λ (r : Reading). IsJournalRefusal s height text r at1 number1 e) (sym begun_is) refusal)
 
   -- the beginning and the events
   pub begin_and_events : (at number at1 number1 at2 number2 : ℕ)
@@ -147,10 +147,10 @@ module _ (s : Shape) (height : ℕ) (text : List ℕ) (r : Reading) (old mid : L
       number2 begin
       (subst (λ (r : Reading). Advances s height text r at1 number1 (event_lines (length old) a.events) at2 number2) (sym begun_is) a.advances)
 
-  -- what was told then
-  pub told_is : (at1 number1 at2 number2 : ℕ) → (a : AreEventsRead s height text old mid fresh pass at1 number1 at2 number2)
+  -- what was read then
+  pub spelled_is : (at1 number1 at2 number2 : ℕ) → (a : AreEventsRead s height text old mid fresh pass at1 number1 at2 number2)
       → after_all (after r (Begins fresh.pass fresh.picture fresh.start)) (event_lines (length old) a.events) ≡ with_rows mid pass []
-  told_is at1 number1 at2 number2 a =
+  spelled_is at1 number1 at2 number2 a =
       ap (λ (x : Reading). after_all x (event_lines (length old) a.events)) begun_is
       ∙ sym (reading_after s height text old mid fresh pass at1 number1 at2 number2 a)
       ∙ ap (λ rs. made mid pass.pass pass.picture pass.start rs) (a.same.rows ∙ no_rows)
@@ -178,7 +178,7 @@ module _ (s : Shape) (height : ℕ) (text : List ℕ) (r : Reading) (old mid : L
       ++ map Draws rows) at3 number3 =
       advance_more s height text r at number (Begins fresh.pass fresh.picture fresh.start ∷ event_lines (length old) a.events) (map Draws rows) at2
       number2 at3 number3 (begin_and_events at number at1 number1 at2 number2 begin a)
-      (subst (λ (r : Reading). Advances s height text r at2 number2 (map Draws rows) at3 number3) (sym (told_is at1 number1 at2 number2 a)) drawn) in
+      (subst (λ (r : Reading). Advances s height text r at2 number2 (map Draws rows) at3 number3) (sym (spelled_is at1 number1 at2 number2 a)) drawn) in
       let moved = subst (λ (ls : List Line). Advances s height text r at number ls at3 number3) lines all in
       record {
         changes_are = a.changes_are ∙ ap (λ es. old ++ changes_of es) (sym events);
@@ -197,7 +197,7 @@ no_rows_left (row ∷ rows) e = absurd (omega (arith, e))
 
 -- a pass, by what was read between its first line and its end
 pub pass_filled : (s : Shape) (height : ℕ) (text : List ℕ) (r : Reading) (old mid : List Change) (passes before : ℕ) (fresh pass : PassText)
-    → IsBetween s height old passes before r → fresh.events.elements ≡ [] → fresh.rows.elements ≡ []
+    → IsBetweenPasses s height old passes before r → fresh.events.elements ≡ [] → fresh.rows.elements ≡ []
     → (at number at1 number1 at2 number2 : ℕ) → Advances s height text r at number (Begins fresh.pass fresh.picture fresh.start ∷ []) at1 number1
     → IsPassFilled s height text old mid fresh pass at1 number1 at2 number2 → fresh.picture ≤ fresh.pass
     → IsPassRead s height text r old mid passes pass at number at2 number2
@@ -211,10 +211,10 @@ pass_filled s height text r old mid passes before fresh pass between no_events n
 -- a refusal among the rows of a pass that had none
 pub rows_refused : (s : Shape) (height : ℕ) (text : List ℕ) (old mid : List Change) (fresh pass : PassText) (at number at1 number1 : ℕ)
     (e : JournalError) → fresh.rows.elements ≡ [] → AreEventsRead s height text old mid fresh pass at number at1 number1
-    → IsRefusal s height text (with_rows mid pass []) at1 number1 e → IsRefusal s height text (reading_of old fresh) at number e
+    → IsJournalRefusal s height text (with_rows mid pass []) at1 number1 e → IsJournalRefusal s height text (reading_of old fresh) at number e
 rows_refused s height text old mid fresh pass at number at1 number1 e no_rows a refusal =
     refused_after s height text old mid fresh pass at number at1 number1 e a
-    (subst (λ (rs : List RowLine). IsRefusal s height text (with_rows mid pass rs) at1 number1 e) (sym (a.same.rows ∙ no_rows)) refusal)
+    (subst (λ (rs : List RowLine). IsJournalRefusal s height text (with_rows mid pass rs) at1 number1 e) (sym (a.same.rows ∙ no_rows)) refusal)
 
 -- what a pass tells
 pub after_pass : (r : Reading) (pass : PassText)
@@ -244,7 +244,7 @@ changes_more ps p =
 pub passes_more : (s : Shape) (height : ℕ) (text : List ℕ) (first before last : List Change) (passes : List PassText) (pass : PassText)
     (picture at number at1 number1 at2 number2 : ℕ)
     → ArePassesRead s height text first before passes picture at number at1 number1
-    → ((r : Reading) → IsBetween s height before (length passes) picture r
+    → ((r : Reading) → IsBetweenPasses s height before (length passes) picture r
     → IsPassRead s height text r before last (length passes) pass at1 number1 at2 number2)
     → length passes + 2 < 2 ^ 32
     → ArePassesRead s height text first last (passes ++ pass ∷ []) pass.picture at number at2 number2
@@ -254,7 +254,7 @@ passes_more s height text first before last passes pass picture at number at1 nu
     let read : IsPassRead s height text r before last (length passes) pass at1 number1 at2 number2 = next r so_far.between in
     let all = lines_more passes pass in
     let count = length-append passes (pass ∷ []) in
-    let told : after_all (head_reading first) (flat_map pass_lines (map pass_of (passes
+    let spelled : after_all (head_reading first) (flat_map pass_lines (map pass_of (passes
     ++ pass ∷ []))) ≡ made last pass.pass pass.picture pass.start pass.rows.elements =
     ap (after_all (head_reading first)) (sym all) ∙ after_all-append (head_reading first) ls (pass_lines (pass_of pass))
     ∙ after_pass r pass
@@ -266,7 +266,7 @@ passes_more s height text first before last passes pass picture at number at1 nu
           ∙ ap (λ cs. first ++ cs) (changes_more passes pass);
       advances = subst (λ (ls : List Line). Advances s height text (head_reading first) at number ls at2 number2) all
           (advance_more s height text (head_reading first) at number ls (pass_lines (pass_of pass)) at1 number1 at2 number2 so_far.advances read.advances);
-      between = subst (λ (r : Reading). IsBetween s height last (length (passes ++ pass ∷ [])) pass.picture r) (sym told) (record {
+      between = subst (λ (r : Reading). IsBetweenPasses s height last (length (passes ++ pass ∷ [])) pass.picture r) (sym spelled) (record {
         small = record {
           tile = so_far.between.small.tile;
           short = so_far.between.small.short;

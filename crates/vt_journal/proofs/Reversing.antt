@@ -15,7 +15,7 @@ use Rattle.vt_journal.specs.Following.{AreEventsAfter, IsRowOf, IsPassAfter}
 use Rattle.vt_journal.proofs.Versions.{slice_get-front, slice_get-push}
 use Rattle.vt_journal.proofs.Stepping.{admitted-parts}
 use Rattle.vt_journal.proofs.Events.{after_events, pinned_stays}
-use Rattle.vt_journal.proofs.Following.{told_by_pass}
+use Rattle.vt_journal.proofs.Following.{spelled_by_pass}
 
 abbrev made : List Change → ℕ → ℕ → ℕ → List RowLine → Reading
 made changes passes picture start rows = record { changes = changes; passes = passes; picture = picture; start = start; rows = rows }
@@ -93,15 +93,15 @@ pass_next s height pinned r p all whole by some =
     subst (λ (x : Reading). AreAdmitted s height x (map Draws p.rows)) (after_events b p.start p.events) parts.1 in
     let rows = rows_of s height p.pass p.picture p.start (r.changes
     ++ changes_of p.events) [] p.rows (none_begun p.start (length (r.changes ++ changes_of p.events))) drawn in
-    let told : IsComplete s height (made (r.changes ++ changes_of p.events) p.pass p.picture p.start p.rows) = subst (IsComplete s height)
-    (told_by_pass r p) whole in
+    let spelled : IsComplete s height (made (r.changes ++ changes_of p.events) p.pass p.picture p.start p.rows) = subst (IsComplete s height)
+    (spelled_by_pass r p) whole in
     record {
       pass_is = all.0.1;
       picture_is = all.0.2;
       start_is = all.0.3;
       events = events_after s height pinned p.pass p.picture p.start p.start r.changes p.events by some parts.0;
       rows = record {
-        count = told.rows (omega (arith, all.0.1));
+        count = spelled.rows (omega (arith, all.0.1));
         each = λ y row at. subst (λ n. IsRowOf p.start n y row) last (rows.each y row at);
         rise = rows.rise;
       };

@@ -11,10 +11,10 @@ use Rattle.vt_journal.specs.declared.passes.PassText.{PassText}
 use Rattle.vt_journal.specs.declared.parse.JournalError.{JournalError}
 use Rattle.vt_journal.specs.declared.parse.JournalError.TheVariants.{BadLine}
 use Rattle.vt_text.specs.Limits.{most_samplers}
-use Rattle.vt_journal.specs.JournalFlaws.{Reading, Admits, IsComplete, after, after_all, IsFlawFrom}
+use Rattle.vt_journal.specs.JournalFlaws.{Reading, Admits, IsComplete, after, after_all, IsJournalFlawFrom}
 use Rattle.vt_journal.specs.JournalText.{line_fields}
 use Rattle.vt_text.specs.Lines.{fields_of, lines_of}
-use Rattle.vt_journal.specs.JournalReading.{IsCursor, IsLineRead, IsNoLine, Advances, IsRefusal, IsSmall, AreSeen, IsRowInTurn, AreRowsBegun, with_rows, IsNoEvent, IsNoEventAt}
+use Rattle.vt_journal.specs.JournalReading.{IsCursor, IsLineRead, IsNoLine, Advances, IsJournalRefusal, IsSmall, AreSeen, IsRowInTurn, AreRowsBegun, with_rows, IsNoEvent, IsNoEventAt}
 use Rattle.vt_journal.proofs.Stepping.{advance_none, advance_more, refused_later, refused_unread, refused_read, some_lines, line_injective, readable_in_chain}
 
 -- no row was read
@@ -59,7 +59,7 @@ module _ (s : Shape) (height : ℕ) (text : List ℕ) (changes : List Change) (p
   pub row_not_read : (rows : List RowLine) (seen : List ℕ) (version : ℕ) (row : RowLine) (at number next_at next_number : ℕ)
       → AreRowsBegun s height changes pass rows seen
       → version ≡ length changes → IsLineRead s text at number (Draws row) next_at next_number → ¬ IsRowInTurn (length rows) seen version row
-      → IsFlawFrom s height number (with_rows changes pass rows) (lines_of (drop at text)) (BadLine number)
+      → IsJournalFlawFrom s height number (with_rows changes pass rows) (lines_of (drop at text)) (BadLine number)
   row_not_read rows seen version row at number next_at next_number begun newest read never =
       refused_read s height text (with_rows changes pass rows) at number (Draws row) next_at next_number begun.small.tile read
       (λ a. never (admitted_row s height changes pass rows seen version row begun newest a))
@@ -70,7 +70,7 @@ module _ (s : Shape) (height : ℕ) (text : List ℕ) (changes : List Change) (p
 
   -- no line where a row is missing
   pub no_row : (rows : List RowLine) (seen : List ℕ) (at number : ℕ) → AreRowsBegun s height changes pass rows seen → length rows < height → IsNoLine s text at
-      → IsFlawFrom s height number (with_rows changes pass rows) (lines_of (drop at text)) (BadLine number)
+      → IsJournalFlawFrom s height number (with_rows changes pass rows) (lines_of (drop at text)) (BadLine number)
   no_row rows seen at number begun below none =
       refused_unread s height text (with_rows changes pass rows) at number begun.small none (λ _. incomplete rows begun.in_pass below)
 
@@ -78,7 +78,7 @@ module _ (s : Shape) (height : ℕ) (text : List ℕ) (changes : List Change) (p
   pub other_line : (rows : List RowLine) (seen : List ℕ) (line : Line) (at number next_at next_number : ℕ)
       → AreRowsBegun s height changes pass rows seen → length rows < height
       → IsLineRead s text at number line next_at next_number → ((row : RowLine) → line ≢ Draws row) → (rows ≡ [] → IsNoEventAt s text at)
-      → IsFlawFrom s height number (with_rows changes pass rows) (lines_of (drop at text)) (BadLine number)
+      → IsJournalFlawFrom s height number (with_rows changes pass rows) (lines_of (drop at text)) (BadLine number)
   other_line rows seen line at number next_at next_number begun below read other none =
       refused_read s height text (with_rows changes pass rows) at number line next_at next_number begun.small.tile read (never line other no_event)
     where
@@ -127,10 +127,10 @@ module _ (s : Shape) (height : ℕ) (text : List ℕ) (changes : List Change) (p
 
   pub row_refused_later : (rows : List RowLine) (at1 number1 : ℕ) (e : JournalError)
       → Advances s height text (with_rows changes pass []) at number (map Draws rows) at1 number1
-      → IsRefusal s height text (with_rows changes pass rows) at1 number1 e → IsRefusal s height text (with_rows changes pass []) at number e
+      → IsJournalRefusal s height text (with_rows changes pass rows) at1 number1 e → IsJournalRefusal s height text (with_rows changes pass []) at number e
   row_refused_later rows at1 number1 e a refusal =
       refused_later s height text (with_rows changes pass []) at number (map Draws rows) at1 number1 e a
-      (subst (λ (r : Reading). IsRefusal s height text r at1 number1 e) (sym (after_rows (with_rows changes pass []) rows)) refusal)
+      (subst (λ (r : Reading). IsJournalRefusal s height text r at1 number1 e) (sym (after_rows (with_rows changes pass []) rows)) refusal)
 
 pub rows_count : (rows after : List RowLine) (row : RowLine) → after ≡ rows ++ row ∷ [] → length after ≡ length rows + 1
 rows_count rows after row added = ap (λ rs. length {A = RowLine} rs) added ∙ length-append rows (row ∷ [])

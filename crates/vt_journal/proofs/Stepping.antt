@@ -16,8 +16,8 @@ use Rattle.vt_journal.specs.declared.lines.Line.TheVariants.{Begins, Makes, Lose
 use Rattle.vt_journal.specs.declared.parse.JournalError.{JournalError}
 use Rattle.vt_journal.specs.declared.parse.JournalError.TheVariants.{BadLine, NoMemory}
 use Rattle.vt_journal.specs.JournalText.{page_fields, line_fields, IsLineInChain}
-use Rattle.vt_journal.specs.JournalFlaws.{Reading, Admits, after, AreAdmitted, after_all, IsComplete, SaysNext, IsFlawFrom}
-use Rattle.vt_journal.specs.JournalReading.{IsReadable, line_bytes, IsCursor, IsLineRead, IsNoLine, Advances, IsRefusal, IsSmall}
+use Rattle.vt_journal.specs.JournalFlaws.{Reading, Admits, after, AreAdmitted, after_all, IsComplete, SaysNext, IsJournalFlawFrom}
+use Rattle.vt_journal.specs.JournalReading.{IsReadable, line_bytes, IsCursor, IsLineRead, IsNoLine, Advances, IsJournalRefusal, IsSmall}
 use Rattle.vt_journal.proofs.SpelledLines.{fields_of-line, line_of-fields}
 
 -- the fields of a page tell the page
@@ -145,7 +145,7 @@ one_line s height r bytes l m tile says chain fields =
 pub flaw_unread : (s : Shape) (height number : ℕ) (r : Reading) (lines : List (List ℕ)) → lines ≢ []
     → (lines ≡ [] ∷ [] → ¬ IsComplete s height r)
     → ((l : Line) (bytes next : List ℕ) (rest : List (List ℕ)) → lines ≡ bytes ∷ next ∷ rest → ¬ SaysNext s height r bytes l)
-    → IsFlawFrom s height number r lines (BadLine number)
+    → IsJournalFlawFrom s height number r lines (BadLine number)
 flaw_unread s height number r [] some ends none = absurd (some refl)
 flaw_unread s height number r (rest ∷ []) some ends none = (λ e. ends (ap (λ x. x ∷ []) e), refl)
 flaw_unread s height number r (bytes ∷ next ∷ rest) some ends none = inl (λ l says. none l bytes next rest refl says, refl)
@@ -153,7 +153,7 @@ flaw_unread s height number r (bytes ∷ next ∷ rest) some ends none = inl (λ
 -- where a line is read that may not come next
 pub flaw_refused : (s : Shape) (height number : ℕ) (r : Reading) (bytes : List ℕ) (rest : List (List ℕ)) (l : Line) → 1 ≤ s.tile
     → rest ≢ [] → IsLineInChain s l → fields_of bytes ≡ line_fields s l
-    → ¬ Admits s height r l → IsFlawFrom s height number r (bytes ∷ rest) (BadLine number)
+    → ¬ Admits s height r l → IsJournalFlawFrom s height number r (bytes ∷ rest) (BadLine number)
 flaw_refused s height number r bytes [] l tile some chain fields refused = absurd (some refl)
 flaw_refused s height number r bytes (next ∷ rest) l tile some chain fields refused =
     inl (λ m says. refused (subst (Admits s height r) (one_line s height r bytes m l tile says chain fields) says.0), refl)
@@ -161,19 +161,19 @@ flaw_refused s height number r bytes (next ∷ rest) l tile some chain fields re
 -- a flaw after a line that may come next
 pub flaw_later : (s : Shape) (height number : ℕ) (r : Reading) (bytes : List ℕ) (rest : List (List ℕ)) (l : Line) (e : JournalError) → rest ≢ []
     → SaysNext s height r bytes l
-    → IsFlawFrom s height (number + 1) (after r l) rest e → IsFlawFrom s height number r (bytes ∷ rest) e
+    → IsJournalFlawFrom s height (number + 1) (after r l) rest e → IsJournalFlawFrom s height number r (bytes ∷ rest) e
 flaw_later s height number r bytes [] l e some says flaw = absurd (some refl)
 flaw_later s height number r bytes (next ∷ rest) l e some says flaw = inr (l, says, flaw)
 
 -- a flaw after lines that may come next
 pub flaw_after_all : (s : Shape) (height number : ℕ) (r : Reading) (lines : List Line) (rest : List (List ℕ)) (e : JournalError)
     → rest ≢ [] → AreAdmitted s height r lines
-    → IsFlawFrom s height (number + length lines) (after_all r lines) rest e → IsFlawFrom s height number r (map (line_bytes s) lines ++ rest) e
-flaw_after_all s height number r [] rest e some all flaw = let z : number + 0 ≡ number = omega arith in subst (λ n. IsFlawFrom s height n r rest e) z flaw
+    → IsJournalFlawFrom s height (number + length lines) (after_all r lines) rest e → IsJournalFlawFrom s height number r (map (line_bytes s) lines ++ rest) e
+flaw_after_all s height number r [] rest e some all flaw = let z : number + 0 ≡ number = omega arith in subst (λ n. IsJournalFlawFrom s height n r rest e) z flaw
 flaw_after_all s height number r (l ∷ ls) rest e some all flaw =
     let z : number + suc (length ls) ≡ number + 1 + length ls = omega arith in
     flaw_later s height number r (line_bytes s l) (map (line_bytes s) ls ++ rest) l e (more ls) (all.0, fields_of-line s l)
-    (flaw_after_all s height (number + 1) (after r l) ls rest e some all.1 (subst (λ n. IsFlawFrom s height n (after_all (after r l) ls) rest e) z flaw))
+    (flaw_after_all s height (number + 1) (after r l) ls rest e some all.1 (subst (λ n. IsJournalFlawFrom s height n (after_all (after r l) ls) rest e) z flaw))
   where
     more : (ls : List Line) → map (line_bytes s) ls ++ rest ≢ []
     more [] e = some e
@@ -196,7 +196,7 @@ after_all-append r (l ∷ ls) ms = after_all-append (after r l) ls ms
 
 -- lines have one first refusal
 pub flaw_unique : (s : Shape) (height number : ℕ) (r : Reading) (lines : List (List ℕ)) (e f : JournalError) → 1 ≤ s.tile
-    → IsFlawFrom s height number r lines e → IsFlawFrom s height number r lines f → e ≡ f
+    → IsJournalFlawFrom s height number r lines e → IsJournalFlawFrom s height number r lines f → e ≡ f
 flaw_unique s height number r [] e f tile a b = absurd a
 flaw_unique s height number r (rest ∷ []) e f tile a b = a.1 ∙ sym b.1
 flaw_unique s height number r (bytes ∷ next ∷ rest) e f tile (inl a) (inl b) = a.1 ∙ sym b.1
@@ -205,21 +205,21 @@ flaw_unique s height number r (bytes ∷ next ∷ rest) e f tile (inr (l, says, 
 flaw_unique s height number r (bytes ∷ next ∷ rest) e f tile (inr (l, says, later)) (inr (m, says', later')) =
     let same : l ≡ m = one_line s height r bytes l m tile says (admitted_in_chain s height r m says'.0) says'.1 in
     flaw_unique s height (number + 1) (after r l) (next ∷ rest) e f tile later
-    (subst (λ z. IsFlawFrom s height (number + 1) (after r z) (next ∷ rest) f) (sym same) later')
+    (subst (λ z. IsJournalFlawFrom s height (number + 1) (after r z) (next ∷ rest) f) (sym same) later')
 
 -- a flaw of a line that may come next and of those after it is one of those after it
 flaw_rest : (s : Shape) (height number : ℕ) (r : Reading) (l : Line) (next : List ℕ) (rest : List (List ℕ)) (e : JournalError)
     → 1 ≤ s.tile → Admits s height r l
-    → IsFlawFrom s height number r (line_bytes s l ∷ next ∷ rest) e → IsFlawFrom s height (number + 1) (after r l) (next ∷ rest) e
+    → IsJournalFlawFrom s height number r (line_bytes s l ∷ next ∷ rest) e → IsJournalFlawFrom s height (number + 1) (after r l) (next ∷ rest) e
 flaw_rest s height number r l next rest e tile admits (inl a) = absurd (a.0 l (admits, fields_of-line s l))
 flaw_rest s height number r l next rest e tile admits (inr (m, says, flaw)) =
     let same : m ≡ l = one_line s height r (line_bytes s l) m l tile says (admitted_in_chain s height r l admits) (fields_of-line s l) in
-    subst (λ z. IsFlawFrom s height (number + 1) (after r z) (next ∷ rest) e) same flaw
+    subst (λ z. IsJournalFlawFrom s height (number + 1) (after r z) (next ∷ rest) e) same flaw
 
 -- lines that may come one after another, and are complete, have no flaw
 pub no_flaw : (s : Shape) (height number : ℕ) (r : Reading) (lines : List Line) (e : JournalError) → 1 ≤ s.tile
     → AreAdmitted s height r lines → IsComplete s height (after_all r lines)
-    → IsFlawFrom s height number r (map (line_bytes s) lines ++ ([] ∷ [])) e → ⊥
+    → IsJournalFlawFrom s height number r (map (line_bytes s) lines ++ ([] ∷ [])) e → ⊥
 no_flaw s height number r [] e tile all whole flaw = flaw.0 refl whole
 no_flaw s height number r (l ∷ []) e tile all whole flaw =
     no_flaw s height (number + 1) (after r l) [] e tile all.1 whole (flaw_rest s height number r l [] [] e tile all.0 flaw)
@@ -230,22 +230,22 @@ no_flaw s height number r (l ∷ m ∷ ms) e tile all whole flaw =
 module _ (s : Shape) (height : ℕ) (text : List ℕ) (r : Reading) (at number : ℕ) where
   -- a refusal where no line is read, and the text may not end
   pub refused_unread : IsSmall s height r → IsNoLine s text at → (drop at text ≡ [] → ¬ IsComplete s height r)
-      → IsFlawFrom s height number r (lines_of (drop at text)) (BadLine number)
+      → IsJournalFlawFrom s height number r (lines_of (drop at text)) (BadLine number)
   refused_unread small none ends =
       flaw_unread s height number r (lines_of (drop at text)) (some_lines (drop at text)) (λ e. ends (one_empty (drop at text) e))
       (λ l bytes next rest cut says. none l bytes next rest cut (record { readable = admitted_readable s height r l small says.0; fields = says.1 }))
 
   -- a refusal by a number
   pub refusal_by : (e : JournalError) → (e ≡ NoMemory) ⊎ (e ≡ BadLine number)
-      → IsFlawFrom s height number r (lines_of (drop at text)) (BadLine number) → IsRefusal s height text r at number e
+      → IsJournalFlawFrom s height number r (lines_of (drop at text)) (BadLine number) → IsJournalRefusal s height text r at number e
   refusal_by e (inl memory) flaw = inl memory
-  refusal_by e (inr line) flaw = inr (subst (λ e. IsFlawFrom s height number r (lines_of (drop at text)) e) (sym line) flaw)
+  refusal_by e (inr line) flaw = inr (subst (λ e. IsJournalFlawFrom s height number r (lines_of (drop at text)) e) (sym line) flaw)
 
   -- a refusal where a line is read that may not come next
   pub refused_read : (l : Line) (next_at next_number : ℕ) → 1 ≤ s.tile → IsLineRead s text at number l next_at next_number → ¬ Admits s height r l
-      → IsFlawFrom s height number r (lines_of (drop at text)) (BadLine number)
+      → IsJournalFlawFrom s height number r (lines_of (drop at text)) (BadLine number)
   refused_read l next_at next_number tile read refused =
-      subst (λ ls. IsFlawFrom s height number r ls (BadLine number)) (sym read.cut)
+      subst (λ ls. IsJournalFlawFrom s height number r ls (BadLine number)) (sym read.cut)
       (flaw_refused s height number r read.bytes (lines_of (drop next_at text)) l tile (some_lines (drop next_at text))
       (readable_in_chain s l read.says.readable) read.says.fields refused)
 
@@ -281,9 +281,9 @@ module _ (s : Shape) (height : ℕ) (text : List ℕ) (r : Reading) (at number :
 
   -- a refusal after lines is one of the whole
   pub refused_later : (ls : List Line) (at1 number1 : ℕ) (e : JournalError) → Advances s height text r at number ls at1 number1
-      → IsRefusal s height text (after_all r ls) at1 number1 e → IsRefusal s height text r at number e
+      → IsJournalRefusal s height text (after_all r ls) at1 number1 e → IsJournalRefusal s height text r at number e
   refused_later ls at1 number1 e a (inl memory) = inl memory
   refused_later ls at1 number1 e a (inr flaw) =
-      inr (subst (λ x. IsFlawFrom s height number r x e) (sym a.spelled)
+      inr (subst (λ x. IsJournalFlawFrom s height number r x e) (sym a.spelled)
       (flaw_after_all s height number r ls (lines_of (drop at1 text)) e (some_lines (drop at1 text)) a.admitted
-      (subst (λ n. IsFlawFrom s height n (after_all r ls) (lines_of (drop at1 text)) e) a.number_is flaw)))
+      (subst (λ n. IsJournalFlawFrom s height n (after_all r ls) (lines_of (drop at1 text)) e) a.number_is flaw)))

@@ -10,12 +10,12 @@ use Rattle.vt_journal.specs.declared.parse.JournalError.{JournalError}
 use Rattle.vt_journal.specs.declared.parse.JournalError.TheVariants.{NoMemory}
 use Rattle.vt_journal.specs.Passes.{pass_of}
 use Rattle.vt_journal.specs.JournalText.{Content, pass_lines, passes_changes, content_lines, journal_text}
-use Rattle.vt_journal.specs.JournalFlaws.{Reading, nothing_read, AreAdmitted, after_all, IsComplete, IsLawful, IsJournalFlaw}
+use Rattle.vt_journal.specs.JournalFlaws.{Reading, nothing_read, AreAdmitted, after_all, IsComplete, IsLawfulJournal, IsJournalFlaw}
 use Rattle.vt_journal.specs.JournalReading.{IsHeadBegun, AreAllPassesRead, line_bytes}
 use Rattle.vt_journal.specs.Texts.{TextView, IsJournalText}
 use Rattle.vt_journal.proofs.SpelledLines.{text_of-lines}
 use Rattle.vt_journal.proofs.Stepping.{admitted-append, after_all-append}
-use Rattle.vt_journal.proofs.Heading.{lines_to, told}
+use Rattle.vt_journal.proofs.Heading.{lines_to, spelled_heads}
 use Rattle.vt_journal.proofs.Contents.{text_of_content, content_unique, lawful_has_no_flaw, journal_flaw_unique}
 
 pub whole_read : (s : Shape) (height : ℕ) (text : List ℕ) (first last : List Change) (pinned at number : ℕ) (passes : List PassText)
@@ -30,7 +30,7 @@ whole_read s height text first last pinned at number passes head read =
     head.advances.spelled ∙ ap (λ x. map (line_bytes s) heads ++ x) read.spelled
     ∙ sym (append_assoc (map (line_bytes s) heads) (map (line_bytes s) rest) ([] ∷ []))
     ∙ ap (λ x. x ++ ([] ∷ [])) (sym (map-append (line_bytes s) heads rest)) in
-    let said = told s pinned pinned first head.changes_are in
+    let said = spelled_heads s pinned pinned first head.changes_are in
     record {
       spelled = text_of-lines s text (content_lines s content) lines ∙ sym (text_of_content s content);
       lawful = record {
@@ -44,7 +44,7 @@ whole_read s height text first last pinned at number passes head read =
 -- what the reading finds decides its answer
 pub formed : (s : Shape) (height : ℕ) (text : List ℕ) (result : Result TextView JournalError) → 1 ≤ s.tile
     → MatchResult result (IsJournalText s height text) (λ e. (e ≡ NoMemory) ⊎ IsJournalFlaw s height text e)
-    → (content : Content) → IsLawful s height content → text ≡ journal_text s content → MatchResult result (λ j. j.content ≡ content) (λ e. e ≡ NoMemory)
+    → (content : Content) → IsLawfulJournal s height content → text ≡ journal_text s content → MatchResult result (λ j. j.content ≡ content) (λ e. e ≡ NoMemory)
 formed s height text (Ok j) tile found content lawful same =
     content_unique s height j.content content tile found.lawful lawful (sym found.spelled ∙ same)
 formed s height text (Err e) tile (inl memory) content lawful same = memory

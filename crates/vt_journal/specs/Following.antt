@@ -13,15 +13,15 @@ use Rattle.vt_journal.specs.JournalText.{Pass, Content, changes_of, pinned_chang
 use Rattle.vt_journal.specs.JournalFlaws.{IsNextPicture}
 
 -- page and frame of a change are within their bounds, and it does not unmap one of the last so many pages
-abbrev pub IsWithin : Shape → ℕ → Change → Type 0
-IsWithin s pinned (Map page frame) = (page < pages_of s) × (frame < most_frames)
-IsWithin s pinned (Unmap page frame) = (page + pinned < pages_of s) × (frame < most_frames)
+abbrev pub IsChangeWithin : Shape → ℕ → Change → Type 0
+IsChangeWithin s pinned (Map page frame) = (page < pages_of s) × (frame < most_frames)
+IsChangeWithin s pinned (Unmap page frame) = (page + pinned < pages_of s) × (frame < most_frames)
 
 -- each event may come after those before it: a change may come next, and a lost page is not mapped
 abbrev pub AreEventsAfter : Shape → ℕ → List Change → List Event → Type 0
 AreEventsAfter s pinned changes [] = Unit {0}
 AreEventsAfter s pinned changes (Changed change ∷ events) =
-    IsWithin s pinned change × IsNext (newest changes) change × AreEventsAfter s pinned (changes ++ change ∷ []) events
+    IsChangeWithin s pinned change × IsNext (newest changes) change × AreEventsAfter s pinned (changes ++ change ∷ []) events
 AreEventsAfter s pinned changes (Lost page ∷ events) =
     (page < pages_of s) × (newest changes page ≡ None) × AreEventsAfter s pinned changes events
 

@@ -15,7 +15,7 @@ use Rattle.vt_journal.specs.Changes.{newest, IsNext}
 use Rattle.vt_journal.specs.Lookups.{change_page}
 use Rattle.vt_journal.specs.JournalText.{Content, line_fields, content_lines}
 
--- what a journal's text has told so far: the changes, the number of passes, and of the last pass its picture, the version at its beginning and its rows
+-- what a journal's text has said so far: the changes, the number of passes, and of the last pass its picture, the version at its beginning and its rows
 pub record Reading : Type 0 where
   pub changes : List Change
   pub passes : ℕ
@@ -78,7 +78,7 @@ Admits s height r (Makes version change) =
 Admits s height r (Loses page) = IsBeforeRows r × (page < pages_of s) × (newest r.changes page ≡ None)
 Admits s height r (Draws row) = IsNextRow height r row
 
--- what was told once the line has told its part
+-- what was read once the line has said its part
 abbrev pub after : Reading → Line → Reading
 after r (Begins pass picture start) = record { changes = r.changes; passes = pass; picture = picture; start = start; rows = [] }
 after r (Makes version change) =
@@ -92,13 +92,13 @@ abbrev pub AreAdmitted : Shape → ℕ → Reading → List Line → Type 0
 AreAdmitted s height r [] = Unit {0}
 AreAdmitted s height r (line ∷ lines) = Admits s height r line × AreAdmitted s height (after r line) lines
 
--- what was told once all the lines have told their parts
+-- what was read once all the lines have said their parts
 abbrev pub after_all : Reading → List Line → Reading
 after_all r [] = r
 after_all r (line ∷ lines) = after_all (after r line) lines
 
 -- each line of the content may come after those before it, and none is missing
-pub record IsLawful (s : Shape) (height : ℕ) (content : Content) : Type 0 where
+pub record IsLawfulJournal (s : Shape) (height : ℕ) (content : Content) : Type 0 where
   pub admitted : AreAdmitted s height nothing_read (content_lines s content)
   pub complete : IsComplete s height (after_all nothing_read (content_lines s content))
 
@@ -106,15 +106,15 @@ pub record IsLawful (s : Shape) (height : ℕ) (content : Content) : Type 0 wher
 abbrev pub SaysNext : Shape → ℕ → Reading → List ℕ → Line → Type 0
 SaysNext s height r bytes line = Admits s height r line × (fields_of bytes ≡ line_fields s line)
 
--- the first refusal of these lines, of which the first has this number and comes after what was told; the text may end only
+-- the first refusal of these lines, of which the first has this number and comes after what was read; the text may end only
 -- where it is complete, and nothing may follow the last line feed
-abbrev pub IsFlawFrom : Shape → ℕ → ℕ → Reading → List (List ℕ) → JournalError → Type 0
-IsFlawFrom s height number r [] e = ⊥
-IsFlawFrom s height number r (rest ∷ []) e = (rest ≡ [] → ¬ IsComplete s height r) × (e ≡ BadLine number)
-IsFlawFrom s height number r (bytes ∷ next ∷ lines) e =
+abbrev pub IsJournalFlawFrom : Shape → ℕ → ℕ → Reading → List (List ℕ) → JournalError → Type 0
+IsJournalFlawFrom s height number r [] e = ⊥
+IsJournalFlawFrom s height number r (rest ∷ []) e = (rest ≡ [] → ¬ IsComplete s height r) × (e ≡ BadLine number)
+IsJournalFlawFrom s height number r (bytes ∷ next ∷ lines) e =
     (((line : Line) → ¬ SaysNext s height r bytes line) × (e ≡ BadLine number))
-    ⊎ ((line : Line) × SaysNext s height r bytes line × IsFlawFrom s height (number + 1) (after r line) (next ∷ lines) e)
+    ⊎ ((line : Line) × SaysNext s height r bytes line × IsJournalFlawFrom s height (number + 1) (after r line) (next ∷ lines) e)
 
 -- the text has a faulty line, and the first is refused in this way
 abbrev pub IsJournalFlaw : Shape → ℕ → List ℕ → JournalError → Type 0
-IsJournalFlaw s height text e = IsFlawFrom s height 1 nothing_read (lines_of text) e
+IsJournalFlaw s height text e = IsJournalFlawFrom s height 1 nothing_read (lines_of text) e

@@ -19,7 +19,7 @@ use Rattle.vt_journal.specs.JournalText.{line_fields, changes_of, event_lines, p
 use Rattle.vt_journal.specs.Changes.{newest, IsNext}
 use Rattle.vt_text.specs.Lists.{ListView}
 use Rattle.vt_journal.specs.Kept.{KeptView}
-use Rattle.vt_journal.specs.JournalFlaws.{Reading, nothing_read, AreAdmitted, after_all, IsComplete, IsNextPicture, IsFlawFrom, pinned_by}
+use Rattle.vt_journal.specs.JournalFlaws.{Reading, nothing_read, AreAdmitted, after_all, IsComplete, IsNextPicture, IsJournalFlawFrom, pinned_by}
 use Rattle.vt_journal.specs.Passes.{pass_of}
 
 -- a field of a line is a number up to a limit, or no such number
@@ -88,7 +88,7 @@ abbrev pub IsNoLine : Shape → List ℕ → ℕ → Type 0
 IsNoLine s text at = (line : Line) (bytes next : List ℕ) (rest : List (List ℕ))
     → lines_of (drop at text) ≡ bytes ∷ next ∷ rest → ¬ Says s bytes line
 
--- lines that may come after what was told are from one place to another
+-- lines that may come after what was read are from one place to another
 pub record Advances (s : Shape) (height : ℕ) (text : List ℕ) (r : Reading) (at number : ℕ) (lines : List Line) (next_at next_number : ℕ) : Type 0 where
   pub spelled : lines_of (drop at text) ≡ map (line_bytes s) lines ++ lines_of (drop next_at text)
   pub admitted : AreAdmitted s height r lines
@@ -97,10 +97,10 @@ pub record Advances (s : Shape) (height : ℕ) (text : List ℕ) (r : Reading) (
   pub cursor : IsCursor text next_at next_number
 
 -- memory was refused, or this is the first refusal of the lines from a place on
-abbrev pub IsRefusal : Shape → ℕ → List ℕ → Reading → ℕ → ℕ → JournalError → Type 0
-IsRefusal s height text r at number e = (e ≡ NoMemory) ⊎ IsFlawFrom s height number r (lines_of (drop at text)) e
+abbrev pub IsJournalRefusal : Shape → ℕ → List ℕ → Reading → ℕ → ℕ → JournalError → Type 0
+IsJournalRefusal s height text r at number e = (e ≡ NoMemory) ⊎ IsJournalFlawFrom s height number r (lines_of (drop at text)) e
 
--- tiles have a side, and what was told fits the reader's numbers
+-- tiles have a side, and what was read fits the reader's numbers
 pub record IsSmall (s : Shape) (height : ℕ) (r : Reading) : Type 0 where
   pub tile : 1 ≤ s.tile
   pub short : height < 2 ^ 32
@@ -119,7 +119,7 @@ pub record IsEventChange (s : Shape) (changes : List Change) (pinned version : �
   pub unpinned : IsUnpinned s pinned change
   pub next : IsNext (newest changes) change
 
--- what was told when a journal has these changes, and its last pass is this
+-- what was read when a journal has these changes, and its last pass is this
 abbrev pub reading_of : List Change → PassText → Reading
 reading_of changes pass = record { changes = changes; passes = pass.pass; picture = pass.picture; start = pass.start; rows = pass.rows.elements }
 
@@ -174,7 +174,7 @@ abbrev pub IsNoEventAt : Shape → List ℕ → ℕ → Type 0
 IsNoEventAt s text at = (line : Line) (bytes : List ℕ) (rest : List (List ℕ))
     → lines_of (drop at text) ≡ bytes ∷ rest → rest ≢ [] → Says s bytes line → IsNoEvent line
 
--- what was told when a pass has rows besides
+-- what was read when a pass has rows besides
 abbrev pub with_rows : List Change → PassText → List RowLine → Reading
 with_rows changes pass rows = record { changes = changes; passes = pass.pass; picture = pass.picture; start = pass.start; rows = rows }
 
@@ -225,8 +225,8 @@ pub record IsPassFilled (s : Shape) (height : ℕ) (text : List ℕ) (before aft
   pub rows : AreRowsRead s height text after middle rows_at rows_number pass_after.rows.elements next_at next_number
   pub same : AreSameButRows middle pass_after
 
--- what was told between two passes: the changes, the number of passes and the picture of the last one
-pub record IsBetween (s : Shape) (height : ℕ) (changes : List Change) (passes picture : ℕ) (r : Reading) : Type 0 where
+-- what was read between two passes: the changes, the number of passes and the picture of the last one
+pub record IsBetweenPasses (s : Shape) (height : ℕ) (changes : List Change) (passes picture : ℕ) (r : Reading) : Type 0 where
   pub small : IsSmall s height r
   pub changes_are : r.changes ≡ changes
   pub passes_are : r.passes ≡ passes
@@ -234,12 +234,12 @@ pub record IsBetween (s : Shape) (height : ℕ) (changes : List Change) (passes 
   pub complete : IsComplete s height r
 
 -- the numbers of a line that begins a pass are those of the next pass
-pub record IsNextPass (version passes picture pass next_picture start : ℕ) : Type 0 where
+pub record IsNextPassLine (version passes picture pass next_picture start : ℕ) : Type 0 where
   pub pass_is : pass ≡ passes + 1
   pub picture_is : IsNextPicture passes picture next_picture
   pub start_is : start ≡ version
 
--- what was told of the head alone
+-- what was read of the head alone
 abbrev pub head_reading : List Change → Reading
 head_reading changes = record { changes = changes; passes = 0; picture = 0; start = 0; rows = [] }
 
@@ -268,7 +268,7 @@ pub record ArePassesRead (s : Shape) (height : ℕ) (text : List ℕ) (before af
     (passes : List PassText) (picture at number next_at next_number : ℕ) : Type 0 where
   pub changes_are : after ≡ before ++ passes_changes (map pass_of passes)
   pub advances : Advances s height text (head_reading before) at number (flat_map pass_lines (map pass_of passes)) next_at next_number
-  pub between : IsBetween s height after (length passes) picture (after_all (head_reading before) (flat_map pass_lines (map pass_of passes)))
+  pub between : IsBetweenPasses s height after (length passes) picture (after_all (head_reading before) (flat_map pass_lines (map pass_of passes)))
 
 -- passes were read to the end of the text
 pub record AreAllPassesRead (s : Shape) (height : ℕ) (text : List ℕ) (before after : List Change) (passes : List PassText) (at : ℕ) : Type 0 where

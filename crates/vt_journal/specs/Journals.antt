@@ -9,5 +9,5 @@ pub record JournalView : Type 0 where
   pub spare : ℕ
 
 -- how many more changes there is room for, where the list has room for so many and no journal has more than 2^62
-abbrev pub room_of : List Change → ℕ → ℕ
-room_of changes spare = min spare (most_versions - length changes)
+abbrev pub room_for_changes : List Change → ℕ → ℕ
+room_for_changes changes spare = min spare (most_versions - length changes)

@@ -20,11 +20,11 @@ impl Model for Journal {
     ghost use Rattle.std.specs.Prelude.{length, ◌≤◌};
     ghost use Rattle.vt_text.specs.Limits.{most_versions};
     ghost use Rattle.vt_journal.specs.Changes.{AreInTurn};
-    ghost use Rattle.vt_journal.specs.Journals.{JournalView, room_of};
+    ghost use Rattle.vt_journal.specs.Journals.{JournalView, room_for_changes};
 
     ghost Value = { JournalView };
 
-    ghost view = { λ j. record { changes = j.changes.elements; spare = room_of j.changes.elements j.changes.spare } };
+    ghost view = { λ j. record { changes = j.changes.elements; spare = room_for_changes j.changes.elements j.changes.spare } };
 
     ghost invariant = { λ j. (length j.changes.elements ≤ most_versions) × AreInTurn j.changes.elements };
 }

@@ -2,9 +2,9 @@
 
 ghost use Rattle.std.specs.Prelude.{◌≡◌, ◌⊎◌, ◌<◌, ◌^◌, [], ◌∷◌, ◌++◌, length, MatchResult};
 ghost use Rattle.vt_pages.specs.Pages.{IsWithinLimits, pages_of};
-ghost use Rattle.vt_journal.specs.JournalReading.{IsCursor, IsRefusal, IsSource, IsHeadWhole, AreAllPassesRead, head_reading};
+ghost use Rattle.vt_journal.specs.JournalReading.{IsCursor, IsJournalRefusal, IsSource, IsHeadWhole, AreAllPassesRead, head_reading};
 ghost use Rattle.vt_journal.specs.JournalFlaws.{IsJournalFlaw, nothing_read};
-ghost use Rattle.vt_journal.specs.Texts.{IsJournalText, IsTold};
+ghost use Rattle.vt_journal.specs.Texts.{IsJournalText, SpellsPasses};
 
 mod events;
 mod head;
@@ -47,7 +47,7 @@ fn read_passes(
     ensures { MatchResult result
         (λ v. AreAllPassesRead source.now.geometry.now source.now.height source.now.text.now
         kept.old.changes kept.new.changes v.items cursor.at)
-        (IsRefusal source.now.geometry.now source.now.height source.now.text.now (head_reading kept.old.changes)
+        (IsJournalRefusal source.now.geometry.now source.now.height source.now.text.now (head_reading kept.old.changes)
         cursor.at cursor.number) }
 {
     let mut passes = Vec::new(alloc);
@@ -87,8 +87,8 @@ fn read_all(alloc: Global, source: &Source, kept: &mut Kept) -> Result<TextRead,
     requires pages { kept.old.pages ≡ pages_of source.now.geometry.now }
     ensures { MatchResult result
         (λ t. (length t.passes.items < 2 ^ 32)
-        × IsTold source.now.geometry.now source.now.height source.now.text.now t.pinned t.passes.items kept.new.changes)
-        (IsRefusal source.now.geometry.now source.now.height source.now.text.now nothing_read 0 1) }
+        × SpellsPasses source.now.geometry.now source.now.height source.now.text.now t.pinned t.passes.items kept.new.changes)
+        (IsJournalRefusal source.now.geometry.now source.now.height source.now.text.now nothing_read 0 1) }
 {
     let head = read_head(source, kept)?;
     let passes = read_passes(alloc, source, kept, head.pinned, head.next)?;

@@ -3,7 +3,7 @@
 ghost use Rattle.std.specs.Prelude.{◌≡◌, ◌<◌, ◌⊎◌, ◌^◌, length, map, slice_get, Some, MatchResult, IfOk, IfErr};
 ghost use Rattle.vt_journal.specs.declared.parse.JournalError.{JournalError};
 ghost use Rattle.vt_journal.specs.JournalText.{Content, journal_text};
-ghost use Rattle.vt_journal.specs.JournalFlaws.{IsLawful, IsJournalFlaw};
+ghost use Rattle.vt_journal.specs.JournalFlaws.{IsLawfulJournal, IsJournalFlaw};
 ghost use Rattle.vt_journal.specs.Passes.{pass_of};
 ghost use Rattle.vt_journal.specs.Texts.{IsJournalText};
 
@@ -98,7 +98,7 @@ pub fn parse_journal(
 ) -> Result<JournalText, JournalError>
     ensures ok { IfOk result (IsJournalText geometry.now height text.now) }
     ensures refused { IfErr result (λ e. (e ≡ JournalError.NoMemory) ⊎ IsJournalFlaw geometry.now height text.now e) }
-    ensures formed { (content : Content) → IsLawful geometry.now height content → text.now ≡ journal_text geometry.now content
+    ensures formed { (content : Content) → IsLawfulJournal geometry.now height content → text.now ≡ journal_text geometry.now content
         → MatchResult result (λ j. j.content ≡ content) (λ e. e ≡ JournalError.NoMemory) }
     ensures faulty { (e : JournalError) → IsJournalFlaw geometry.now height text.now e
         → (result ≡ Err e) ⊎ (result ≡ Err JournalError.NoMemory) }

@@ -19,7 +19,7 @@ use Rattle.vt_queue.specs.Orders.{items_of}
 use Rattle.vt_queue.proofs.Gathered.{shuffled_as, append_nil, all_cut}
 use Rattle.vt_queue.proofs.OrderLemmas.{items_as_put, count_of, facts_of}
 use Rattle.vt_load.specs.Readings.{is_readable, is_lost, IsReading, AreReadings}
-use Rattle.vt_load.specs.Results.{wanted_by, given_by, read_place, lost_among, IsGood, IsReadFor}
+use Rattle.vt_load.specs.Results.{ticket_and_page, answered_by, read_place, lost_among, IsGood, IsReadFor}
 use Rattle.vt_load.specs.Together.{Portion, IsPortion, all_took, all_put, Exchange, IsExchange, IsAnsweredOnce}
 
 filter_all : {X : Type 0} (p : X → Bool) (xs : List X) → All (λ x. p x ≡ true) xs → filter p xs ≡ xs
@@ -48,11 +48,11 @@ rose_both Lost n a b c lost le more = let up = lost refl in omega (arith, up, le
 
 module _ {F : Type 0} (g : FileMeanings F) (s : Shape) (d : ℕ) where
   -- The results of readings are those of the requests,
-  results_of : (q : List Request) (x : List Loaded) (f h : F) → AreReadings g s d q x f h → map given_by x ≡ map wanted_by q
+  results_of : (q : List Request) (x : List Loaded) (f h : F) → AreReadings g s d q x f h → map answered_by x ≡ map ticket_and_page q
   results_of [] [] f h r = refl
   results_of [] (y ∷ x) f h none = absurd none
   results_of (k ∷ q) [] f h none = absurd none
-  results_of (k ∷ q) (y ∷ x) f h r = (λ i. (r.1.ticket i, r.1.page i) ∷ map given_by x) ∙ ap (λ l. wanted_by k ∷ l) (results_of q x r.0 h r.2)
+  results_of (k ∷ q) (y ∷ x) f h r = (λ i. (r.1.ticket i, r.1.page i) ∷ map answered_by x) ∙ ap (λ l. ticket_and_page k ∷ l) (results_of q x r.0 h r.2)
 
   -- the bytes stay,
   pub bytes_kept : (q : List Request) (x : List Loaded) (f h : F) → AreReadings g s d q x f h → g.bytes h ≡ g.bytes f
@@ -62,19 +62,19 @@ module _ {F : Type 0} (g : FileMeanings F) (s : Shape) (d : ℕ) where
   bytes_kept (k ∷ q) (y ∷ x) f h r = bytes_kept q x r.0 h r.2 ∙ r.1.bytes
 
   -- each result is good,
-  one_good : (told : Option (List ℕ)) (k : Request) (y : Loaded) (f m : F) → g.bytes f ≡ told → IsReading g s d k y f m → IsGood told s d y
-  one_good told k y f m is r = record {
+  one_good : (known : Option (List ℕ)) (k : Request) (y : Loaded) (f m : F) → g.bytes f ≡ known → IsReading g s d k y f m → IsGood known s d y
+  one_good known k y f m is r = record {
     size = r.size;
     tile = λ read. subst (λ (z : Option (List ℕ) × ℕ). IfSome z.0 (λ b. IsPiece b (tile_start s d z.1) y.request.buffer.elements))
         (λ i. (is i, sym r.page i)) (r.tile read);
   }
 
-  all_good : (told : Option (List ℕ)) (q : List Request) (x : List Loaded) (f h : F) → g.bytes f ≡ told → AreReadings g s d q x f h → All (IsGood told s d) x
-  all_good told [] [] f h is r = All-nil (IsGood told s d)
-  all_good told [] (y ∷ x) f h is none = absurd none
-  all_good told (k ∷ q) [] f h is none = absurd none
-  all_good told (k ∷ q) (y ∷ x) f h is r = All-cons (IsGood told s d) y x (one_good told k y f r.0 is r.1)
-      (all_good told q x r.0 h (r.1.bytes ∙ is) r.2)
+  all_good : (known : Option (List ℕ)) (q : List Request) (x : List Loaded) (f h : F) → g.bytes f ≡ known → AreReadings g s d q x f h → All (IsGood known s d) x
+  all_good known [] [] f h is r = All-nil (IsGood known s d)
+  all_good known [] (y ∷ x) f h is none = absurd none
+  all_good known (k ∷ q) [] f h is none = absurd none
+  all_good known (k ∷ q) (y ∷ x) f h is r = All-cons (IsGood known s d) y x (one_good known k y f r.0 is r.1)
+      (all_good known q x r.0 h (r.1.bytes ∙ is) r.2)
 
   -- and the file was read for the results.
   read_for : (q : List Request) (x : List Loaded) (f h : F) → AreReadings g s d q x f h → IsReadFor g s d x f h
@@ -100,51 +100,51 @@ module _ {F : Type 0} (g : FileMeanings F) (s : Shape) (d : ℕ) where
         name = rest.name ∙ one.name;
       }
 
-  module _ (told : Option (List ℕ)) where
+  module _ (known : Option (List ℕ)) where
     Readable : Request → Type 0
     Readable request = is_readable s d request ≡ true
 
     -- In one portion of which all requests can be read,
-    same_results : (p : Portion F) → IsPortion g s d told p → All (λ r. is_readable s d r ≡ true) (items_of p.took)
-        → map given_by (items_of p.put) ≡ map wanted_by (items_of p.took)
+    same_results : (p : Portion F) → IsPortion g s d known p → All (λ r. is_readable s d r ≡ true) (items_of p.took)
+        → map answered_by (items_of p.put) ≡ map ticket_and_page (items_of p.took)
     same_results p is all = results_of (filter (is_readable s d) (items_of p.took)) (items_of p.put) p.before p.after is.read
-        ∙ ap (λ l. map wanted_by l) (filter_all (is_readable s d) (items_of p.took) all)
+        ∙ ap (λ l. map ticket_and_page l) (filter_all (is_readable s d) (items_of p.took) all)
 
     -- and in all of them.
-    all_results : (ps : List (Portion F)) → All (IsPortion g s d told) ps → All (λ r. is_readable s d r ≡ true) (items_of (all_took ps))
-        → map given_by (items_of (all_put ps)) ≡ map wanted_by (items_of (all_took ps))
+    all_results : (ps : List (Portion F)) → All (IsPortion g s d known) ps → All (λ r. is_readable s d r ≡ true) (items_of (all_took ps))
+        → map answered_by (items_of (all_put ps)) ≡ map ticket_and_page (items_of (all_took ps))
     all_results [] all fit = refl
     all_results (p ∷ ps) all fit =
         let item = λ (e : ℕ × Request). e.1 in
         let result = λ (e : ℕ × Loaded). e.1 in
         let both = all_cut (λ r. is_readable s d r ≡ true) (items_of p.took) (items_of (all_took ps))
         (subst (λ l. All (λ r. is_readable s d r ≡ true) l) (map-append item p.took (all_took ps)) fit) in
-        ap (λ l. map given_by l) (map-append result p.put (all_put ps))
-        ∙ map-append given_by (items_of p.put) (items_of (all_put ps))
-        ∙ (λ i. same_results p (All-head (IsPortion g s d told) p ps all) both.0 i
-        ++ all_results ps (All-tail (IsPortion g s d told) p ps all) both.1 i)
-        ∙ sym (map-append wanted_by (items_of p.took) (items_of (all_took ps)))
-        ∙ ap (λ l. map wanted_by l) (sym (map-append item p.took (all_took ps)))
+        ap (λ l. map answered_by l) (map-append result p.put (all_put ps))
+        ∙ map-append answered_by (items_of p.put) (items_of (all_put ps))
+        ∙ (λ i. same_results p (All-head (IsPortion g s d known) p ps all) both.0 i
+        ++ all_results ps (All-tail (IsPortion g s d known) p ps all) both.1 i)
+        ∙ sym (map-append ticket_and_page (items_of p.took) (items_of (all_took ps)))
+        ∙ ap (λ l. map ticket_and_page l) (sym (map-append item p.took (all_took ps)))
 
-    good_results : (ps : List (Portion F)) → All (IsPortion g s d told) ps → All (IsGood told s d) (items_of (all_put ps))
-    good_results [] all = All-nil (IsGood told s d)
+    good_results : (ps : List (Portion F)) → All (IsPortion g s d known) ps → All (IsGood known s d) (items_of (all_put ps))
+    good_results [] all = All-nil (IsGood known s d)
     good_results (p ∷ ps) all =
-        let is = All-head (IsPortion g s d told) p ps all in
-        subst (λ l. All (IsGood told s d) l) (sym (map-append (λ (e : ℕ × Loaded). e.1) p.put (all_put ps)))
-        (All-append (IsGood told s d) (items_of p.put) (items_of (all_put ps))
-        (all_good told (filter (is_readable s d) (items_of p.took)) (items_of p.put) p.before p.after is.told_is is.read)
-        (good_results ps (All-tail (IsPortion g s d told) p ps all)))
+        let is = All-head (IsPortion g s d known) p ps all in
+        subst (λ l. All (IsGood known s d) l) (sym (map-append (λ (e : ℕ × Loaded). e.1) p.put (all_put ps)))
+        (All-append (IsGood known s d) (items_of p.put) (items_of (all_put ps))
+        (all_good known (filter (is_readable s d) (items_of p.took)) (items_of p.put) p.before p.after is.known_is is.read)
+        (good_results ps (All-tail (IsPortion g s d known) p ps all)))
 
-    read_files : (ps : List (Portion F)) → All (IsPortion g s d told) ps
+    read_files : (ps : List (Portion F)) → All (IsPortion g s d known) ps
         → All (λ (p : Portion F). IsReadFor g s d (items_of p.put) p.before p.after) ps
     read_files [] all = All-nil (λ (p : Portion F). IsReadFor g s d (items_of p.put) p.before p.after)
     read_files (p ∷ ps) all =
-        let is = All-head (IsPortion g s d told) p ps all in
+        let is = All-head (IsPortion g s d known) p ps all in
         All-cons (λ (q : Portion F). IsReadFor g s d (items_of q.put) q.before q.after) p ps
         (read_for (filter (is_readable s d) (items_of p.took)) (items_of p.put) p.before p.after is.read)
-        (read_files ps (All-tail (IsPortion g s d told) p ps all))
+        (read_files ps (All-tail (IsPortion g s d known) p ps all))
 
-    pub answered_once : (ps : List (Portion F)) (e : Exchange) → IsExchange g s d told ps e → IsAnsweredOnce g s d told ps e
+    pub answered_once : (ps : List (Portion F)) (e : Exchange) → IsExchange g s d known ps e → IsAnsweredOnce g s d known ps e
     answered_once ps e x =
         let item = λ (y : ℕ × Request). y.1 in
         let result = λ (y : ℕ × Loaded). y.1 in
@@ -158,8 +158,8 @@ module _ {F : Type 0} (g : FileMeanings F) (s : Shape) (d : ℕ) where
         let count_took = length_permutation _ _ x.taken_by in
         let count_gave = length_permutation _ _ x.given_by_all in
         let paired : length (all_put ps) ≡ length (all_took ps) = sym (length-map (all_put ps) result)
-        ∙ sym (length-map (items_of (all_put ps)) given_by) ∙ ap length same
-        ∙ length-map (items_of (all_took ps)) wanted_by ∙ length-map (all_took ps) item in
+        ∙ sym (length-map (items_of (all_put ps)) answered_by) ∙ ap length same
+        ∙ length-map (items_of (all_took ps)) ticket_and_page ∙ length-map (all_took ps) item in
         let many = x.as_many in
         let none_unread : e.unread ≡ [] = empty e.unread (omega (arith, count_asked, count_given, count_took, count_gave, paired, many)) in
         let none_over : e.over ≡ [] = empty e.over (omega (arith, count_asked, count_given, count_took, count_gave, paired, many)) in
@@ -173,10 +173,10 @@ module _ {F : Type 0} (g : FileMeanings F) (s : Shape) (d : ℕ) where
         record {
           none_unread = none_unread;
           none_over = none_over;
-          each = IsPermutation-trans _ _ _ (IsPermutation-map wanted_by _ _ asked)
-              (IsPermutation-trans _ _ _ (IsPermutation-map wanted_by _ _ took)
-              (IsPermutation-trans _ _ _ (shuffled_as _ _ (sym same)) (IsPermutation-map given_by _ _ among)));
-          good = All-permutation (IsGood told s d) _ _ among (good_results ps x.portions_are);
+          each = IsPermutation-trans _ _ _ (IsPermutation-map ticket_and_page _ _ asked)
+              (IsPermutation-trans _ _ _ (IsPermutation-map ticket_and_page _ _ took)
+              (IsPermutation-trans _ _ _ (shuffled_as _ _ (sym same)) (IsPermutation-map answered_by _ _ among)));
+          good = All-permutation (IsGood known s d) _ _ among (good_results ps x.portions_are);
           among = among;
           files = read_files ps x.portions_are;
         }

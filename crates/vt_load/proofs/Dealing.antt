@@ -10,7 +10,7 @@ use Rattle.vt_queue.specs.declared.items.Request.{Request}
 use Rattle.vt_queue.specs.declared.items.Loaded.{Loaded}
 use Rattle.vt_queue.specs.declared.views.PassView.{PassView}
 use Rattle.vt_queue.specs.PassViews.{pass_view, all_shares, split_part, Splits, joined, all_joined, shares_of}
-use Rattle.vt_queue.specs.Queues.{view_of, capacity_of}
+use Rattle.vt_queue.specs.Queues.{queue_view_of, capacity_of}
 use Rattle.vt_outside.specs.declared.outside.File.{Ghosts as FileMeanings}
 use Rattle.vt_load.specs.declared.queued.Queues.{Queues}
 use Rattle.vt_queue.proofs.Gathered.{all_cut}
@@ -47,18 +47,18 @@ all_unmap P f (x ∷ xs) all = All-cons (λ y. P (f y)) x xs (All-head P (f x) (
 
 module _ {F : Type 0} where
   -- Loaders of stores that are alike.
-  pub loaders_of : (g : FileMeanings F) (s : Shape) (d : ℕ) (told : Option (List ℕ)) (none stores : List (StoreView F)) (loaders : List (QueuedView F))
+  pub loaders_of : (g : FileMeanings F) (s : Shape) (d : ℕ) (known : Option (List ℕ)) (none stores : List (StoreView F)) (loaders : List (QueuedView F))
       → none ≡ [] → none ++ reverse (stores_of loaders) ≡ stores
-      → All (λ (store : StoreView F). (store.shape ≡ s) × (store.depth ≡ d) × (g.bytes store.file ≡ told)) stores → All (IsLoaderOf g s d told) loaders
-  loaders_of g s d told none stores loaders empty order all =
-      let P : StoreView F → Type 0 = λ store. (store.shape ≡ s) × (store.depth ≡ d) × (g.bytes store.file ≡ told) in
+      → All (λ (store : StoreView F). (store.shape ≡ s) × (store.depth ≡ d) × (g.bytes store.file ≡ known)) stores → All (IsLoaderOf g s d known) loaders
+  loaders_of g s d known none stores loaders empty order all =
+      let P : StoreView F → Type 0 = λ store. (store.shape ≡ s) × (store.depth ≡ d) × (g.bytes store.file ≡ known) in
       let turned : All P (reverse (stores_of loaders)) = subst (λ l. All P l) (sym order ∙ ap (λ l. l ++ reverse (stores_of loaders)) empty) all in
       let each = all_unmap P (λ (l : QueuedView F). l.loader.store) loaders
       (All-permutation P _ _ (IsPermutation-sym _ _ (IsPermutation-reverse (stores_of loaders))) turned) in
-      λ k e inside. let h = each k e inside in record { shape = h.0; depth = h.1; told_is = h.2 }
+      λ k e inside. let h = each k e inside in record { shape = h.0; depth = h.1; known_is = h.2 }
 
   pub split_more : (v v' v'' : PassView Request) (w w' w'' : PassView Loaded) (loaders more : List (QueuedView F)) (l : QueuedView F)
-      → AreSplitOff v v' w w' loaders → Splits v' v'' (view_of l.asks) → Splits w' w'' (view_of l.answers)
+      → AreSplitOff v v' w w' loaders → Splits v' v'' (queue_view_of l.asks) → Splits w' w'' (queue_view_of l.answers)
       → more ≡ loaders ++ l ∷ [] → AreSplitOff v v'' w w'' more
   split_more v v' v'' w w' w'' loaders more l s p q e = record {
     asks_are = p.keeps ∙ ap (λ (z : PassView Request). pass_view v''.shares z.known z.put z.took) s.asks_are;
@@ -67,13 +67,13 @@ module _ {F : Type 0} where
     answers_shares = (let one = answers_one in let two = q.shares in let three = s.answers_shares in omega (arith, one, two, three));
     new = subst (λ z. All IsNew z) (sym e) (All-push IsNew loaders l s.new one_new);
   } where
-    asks_one : shares_of (asks_of more) ≡ shares_of (asks_of loaders) + (view_of l.asks).shares
-    asks_one = ap (λ z. shares_of (asks_of z)) e ∙ ap shares_of (map-append (λ (m : QueuedView F). view_of m.asks) loaders (l ∷ []))
-        ∙ shares_more (asks_of loaders) (view_of l.asks)
+    asks_one : shares_of (asks_of more) ≡ shares_of (asks_of loaders) + (queue_view_of l.asks).shares
+    asks_one = ap (λ z. shares_of (asks_of z)) e ∙ ap shares_of (map-append (λ (m : QueuedView F). queue_view_of m.asks) loaders (l ∷ []))
+        ∙ shares_more (asks_of loaders) (queue_view_of l.asks)
 
-    answers_one : shares_of (answers_of more) ≡ shares_of (answers_of loaders) + (view_of l.answers).shares
-    answers_one = ap (λ z. shares_of (answers_of z)) e ∙ ap shares_of (map-append (λ (m : QueuedView F). view_of m.answers) loaders (l ∷ []))
-        ∙ shares_more (answers_of loaders) (view_of l.answers)
+    answers_one : shares_of (answers_of more) ≡ shares_of (answers_of loaders) + (queue_view_of l.answers).shares
+    answers_one = ap (λ z. shares_of (answers_of z)) e ∙ ap shares_of (map-append (λ (m : QueuedView F). queue_view_of m.answers) loaders (l ∷ []))
+        ∙ shares_more (answers_of loaders) (queue_view_of l.answers)
 
     one_new : IsNew l
     one_new = record {

@@ -9,12 +9,12 @@ use Rattle.vt_queue.specs.declared.items.Loaded.{Loaded}
 use Rattle.vt_queue.specs.declared.views.PassView.{PassView}
 use Rattle.vt_queue.specs.PassViews.{all_shares, all_joined, shares_of}
 use Rattle.vt_queue.specs.Orders.{items_of, gathered, IsFirstInFirstOut}
-use Rattle.vt_queue.specs.Queues.{view_of}
+use Rattle.vt_queue.specs.Queues.{queue_view_of}
 use Rattle.vt_queue.proofs.Gathered.{append_nil}
 use Rattle.vt_queue.proofs.OrderLemmas.{order_of, joined_shares, joined_takes, joined_puts}
 use Rattle.vt_load.specs.declared.queued.Queues.{Queues}
 use Rattle.vt_load.specs.Readings.{is_readable, AreReadings}
-use Rattle.vt_load.specs.Results.{wanted_by, given_by, IsGood}
+use Rattle.vt_load.specs.Results.{ticket_and_page, answered_by, IsGood}
 use Rattle.vt_load.specs.Together.{Portion, IsPortion, all_took, all_put, Exchange}
 use Rattle.vt_load.specs.QueuedLoaders.{QueuedView, asks_of, answers_of, HasLoaded, IsNew, IsLoaderOf}
 use Rattle.vt_load.specs.Rounds.{Round, IsRound, AreServed}
@@ -31,11 +31,11 @@ joined_takes_kept v [] all = refl
 joined_takes_kept v (w ∷ ws) all = ap (λ l. (all_joined v ws).took ++ l) (All-head (λ (u : PassView _). u.took ≡ []) w ws all)
     ∙ append_nil (all_joined v ws).took ∙ joined_takes_kept v ws (All-tail (λ (u : PassView _). u.took ≡ []) w ws all)
 
-module _ {F : Type 0} (g : FileMeanings F) (q : Queues) (s : Shape) (d : ℕ) (told : Option (List ℕ)) where
+module _ {F : Type 0} (g : FileMeanings F) (q : Queues) (s : Shape) (d : ℕ) (known : Option (List ℕ)) where
   -- What loaders did, portion by portion.
   pub record Gathering (a c : List (QueuedView F)) : Type 0 where
     pub portions : List (Portion F)
-    pub are : All (IsPortion g s d told) portions
+    pub are : All (IsPortion g s d known) portions
     pub took : gathered (λ w. w.took) (asks_of c) ≡ all_took portions
     pub put : gathered (λ w. w.put) (answers_of c) ≡ all_put portions
     pub no_puts : All (λ w. w.put ≡ []) (asks_of c)
@@ -45,11 +45,11 @@ module _ {F : Type 0} (g : FileMeanings F) (q : Queues) (s : Shape) (d : ℕ) (t
     pub befores : map (λ (p : Portion F). p.before) portions ≡ map (λ (l : QueuedView F). l.loader.store.file) a
     pub afters : map (λ (p : Portion F). p.after) portions ≡ map (λ (l : QueuedView F). l.loader.store.file) c
 
-  pub gathering : (a c : List (QueuedView F)) → length c ≡ length a → All IsNew a → All (IsLoaderOf g s d told) a
+  pub gathering : (a c : List (QueuedView F)) → length c ≡ length a → All IsNew a → All (IsLoaderOf g s d known) a
       → ((k : ℕ) (e : QueuedView F) → k < length a → HasLoaded g q (get_or a k e) (get_or c k e)) → Gathering a c
   gathering [] [] same new of did = record {
     portions = [];
-    are = All-nil (IsPortion g s d told);
+    are = All-nil (IsPortion g s d known);
     took = refl;
     put = refl;
     no_puts = All-nil (λ (w : PassView Request). w.put ≡ []);
@@ -64,25 +64,25 @@ module _ {F : Type 0} (g : FileMeanings F) (q : Queues) (s : Shape) (d : ℕ) (t
   gathering (l ∷ a) (m ∷ c) same new of did =
       let one = did 0 l (omega arith) in
       let fresh = All-head IsNew l a new in
-      let is = All-head (IsLoaderOf g s d told) l a of in
-      let rest = gathering a c (omega (arith, same)) (All-tail IsNew l a new) (All-tail (IsLoaderOf g s d told) l a of)
+      let is = All-head (IsLoaderOf g s d known) l a of in
+      let rest = gathering a c (omega (arith, same)) (All-tail IsNew l a new) (All-tail (IsLoaderOf g s d known) l a of)
       (λ k e below. did (suc k) e (omega (arith, below))) in
       let loads = one.loads in
       let p : Portion F = record { took = loads.took; put = loads.puts.put; before = l.loader.store.file; after = m.loader.store.file } in
-      let is_p : IsPortion g s d told p = record {
-        told_is = is.told_is;
+      let is_p : IsPortion g s d known p = record {
+        known_is = is.known_is;
         read = subst (λ (z : Shape × ℕ). AreReadings g z.0 z.1 (filter (is_readable z.0 z.1) (items_of loads.took)) (items_of loads.puts.put)
             l.loader.store.file m.loader.store.file)
             (λ i. (is.shape i, is.depth i)) loads.puts.read;
       } in
       record {
         portions = p ∷ rest.portions;
-        are = All-cons (IsPortion g s d told) p rest.portions is_p rest.are;
+        are = All-cons (IsPortion g s d known) p rest.portions is_p rest.are;
         took = (λ i. (ap (λ (w : PassView Request). w.took) loads.is ∙ ap (λ z. z ++ loads.took) fresh.no_takes) i ++ rest.took i);
         put = (λ i. (ap (λ (w : PassView Loaded). w.put) loads.puts.is ∙ ap (λ z. z ++ loads.puts.put) fresh.no_results) i ++ rest.put i);
-        no_puts = All-cons (λ (w : PassView Request). w.put ≡ []) (view_of m.asks) (asks_of c)
+        no_puts = All-cons (λ (w : PassView Request). w.put ≡ []) (queue_view_of m.asks) (asks_of c)
             (ap (λ (w : PassView Request). w.put) loads.is ∙ fresh.no_asks) rest.no_puts;
-        no_takes = All-cons (λ (w : PassView Loaded). w.took ≡ []) (view_of m.answers) (answers_of c)
+        no_takes = All-cons (λ (w : PassView Loaded). w.took ≡ []) (queue_view_of m.answers) (answers_of c)
             (ap (λ (w : PassView Loaded). w.took) loads.puts.is ∙ fresh.no_answers) rest.no_takes;
         asks_shares = (let e = rest.asks_shares in let f = ap (λ (w : PassView Request). w.shares) loads.is in omega (arith, e, f));
         answers_shares = (let e = rest.answers_shares in let f = ap (λ (w : PassView Loaded). w.shares) loads.puts.is in omega (arith, e, f));
@@ -90,7 +90,7 @@ module _ {F : Type 0} (g : FileMeanings F) (q : Queues) (s : Shape) (d : ℕ) (t
         afters = ap (λ z. m.loader.store.file ∷ z) rest.afters;
       }
 
-  pub each_once : (r : Round F) → IsRound g q s d told r → AreServed g s d told r
+  pub each_once : (r : Round F) → IsRound g q s d known r → AreServed g s d known r
   each_once r x =
       let split = x.split in
       let all = gathering r.first r.last x.number split.new x.loaders x.loaded in
@@ -123,7 +123,7 @@ module _ {F : Type 0} (g : FileMeanings F) (q : Queues) (s : Shape) (d : ℕ) (t
         got = x.collected.got;
         over = r.over;
       } in
-      let once = answered_once g s d told all.portions e (record {
+      let once = answered_once g s d known all.portions e (record {
         requests = subst (λ l. IsFirstInFirstOut l r.asks_back.took r.unread) asked (order_of r.asks_back r.unread x.asks_at_step asks_whole);
         results = subst (λ (z : List (ℕ × Loaded) × List (ℕ × Loaded)). IsFirstInFirstOut z.0 z.1 r.over) (λ i. (end_put i, end_took i))
             (order_of r.answers_end r.over x.answers_at_step end_whole);
@@ -138,8 +138,8 @@ module _ {F : Type 0} (g : FileMeanings F) (q : Queues) (s : Shape) (d : ℕ) (t
         portions = all.portions;
         befores = all.befores;
         afters = all.afters;
-        each = subst (λ l. IsPermutation (map wanted_by (items_of r.asks.put)) (map given_by l)) (sym list) once.each;
-        good = subst (λ l. All (IsGood told s d) l) (sym list) once.good;
+        each = subst (λ l. IsPermutation (map ticket_and_page (items_of r.asks.put)) (map answered_by l)) (sym list) once.each;
+        good = subst (λ l. All (IsGood known s d) l) (sym list) once.good;
         among = subst (λ l. IsPermutation (items_of (all_put all.portions)) l) (sym list) once.among;
         files = once.files;
         none_unread = once.none_unread;

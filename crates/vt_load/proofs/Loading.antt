@@ -23,9 +23,9 @@ pub lent_back : (xs ws : List ℕ) → length ws ≡ length xs → refill (lengt
 lent_back xs ws e = ap (λ (n : ℕ). take n (ws ++ drop (length ws) xs)) (sym e) ∙ take-append_seam ws (drop (length ws) xs)
 
 -- So does a tile that was read into them.
-pub lent_tile : (told : Option (List ℕ)) (start : ℕ) (xs ws : List ℕ) → length ws ≡ length xs → IfSome told (λ b. IsPiece b start ws)
-    → IfSome told (λ b. IsPiece b start (refill (length xs) xs ws))
-lent_tile told start xs ws e h = subst (λ l. IfSome told (λ b. IsPiece b start l)) (sym (lent_back xs ws e)) h
+pub lent_tile : (known : Option (List ℕ)) (start : ℕ) (xs ws : List ℕ) → length ws ≡ length xs → IfSome known (λ b. IsPiece b start ws)
+    → IfSome known (λ b. IsPiece b start (refill (length xs) xs ws))
+lent_tile known start xs ws e h = subst (λ l. IfSome known (λ b. IsPiece b start l)) (sym (lent_back xs ws e)) h
 
 -- One more item was taken.
 pub one_taken : (v w : PassView Request) (r : Request) → Takes v r w → length w.took ≡ length v.took + 1

@@ -49,12 +49,12 @@ module _ {F : Type 0} (g : FileMeanings F) (s : Shape) (d : ℕ) where
   as_many (k ∷ q) [] f h none = absurd none
   as_many (k ∷ q) (y ∷ x) f h r = ap suc (as_many q x r.0 h r.2)
 
-  module _ (told : Option (List ℕ)) where
-    few_results : (ps : List (Portion F)) → All (IsPortion g s d told) ps → length (all_put ps) ≤ length (all_took ps)
+  module _ (known : Option (List ℕ)) where
+    few_results : (ps : List (Portion F)) → All (IsPortion g s d known) ps → length (all_put ps) ≤ length (all_took ps)
     few_results [] all = omega arith
     few_results (p ∷ ps) all =
-        let is = All-head (IsPortion g s d told) p ps all in
-        let rest = few_results ps (All-tail (IsPortion g s d told) p ps all) in
+        let is = All-head (IsPortion g s d known) p ps all in
+        let rest = few_results ps (All-tail (IsPortion g s d known) p ps all) in
         let n = as_many (filter (is_readable s d) (items_of p.took)) (items_of p.put) p.before p.after is.read in
         let m = filter_short (is_readable s d) (items_of p.took) in
         let a = length-map p.put (λ (e : ℕ × Loaded). e.1) in
@@ -63,9 +63,9 @@ module _ {F : Type 0} (g : FileMeanings F) (s : Shape) (d : ℕ) where
         let e = length-append p.took (all_took ps) in
         omega (arith, rest, n, m, a, b, c, e)
 
-    module _ (q : Queues) (r : Round F) (x : IsStreamedRound g q s d told r) where
-      all : Gathering g q s d told r.first r.last
-      all = gathering g q s d told r.first r.last x.number x.split.new x.loaders x.loaded
+    module _ (q : Queues) (r : Round F) (x : IsStreamedRound g q s d known r) where
+      all : Gathering g q s d known r.first r.last
+      all = gathering g q s d known r.first r.last x.number x.split.new x.loaders x.loaded
 
       asks_whole : r.asks_back.shares ≡ all_shares
       asks_whole =
@@ -116,10 +116,10 @@ module _ {F : Type 0} (g : FileMeanings F) (s : Shape) (d : ℕ) where
       after : Round F
       after = record r { answers_back = later }
 
-      pub served : AreServed g s d told r
+      pub served : AreServed g s d known r
       unfolding after later
       served =
-          let once = each_once g q s d told after (record {
+          let once = each_once g q s d known after (record {
             asks_all = x.asks_all;
             no_takes = x.no_takes;
             answers_all = x.answers_all;

@@ -24,5 +24,5 @@ pub record Loads {F : Type 0} (g : FileMeanings F) (s : Shape) (d : ℕ) (asks a
   pub puts : Answers g s d (items_of took) v w before after
 
 -- the queue of the requests was empty at a step, or as many were taken as it has room for
-abbrev pub HasEnded : ℕ → PassView Request → PassView Request → Type 0
-HasEnded capacity asks asks' = IsAtStep asks' [] ⊎ (length asks'.took ≡ length asks.took + capacity)
+abbrev pub HasEndedLoading : ℕ → PassView Request → PassView Request → Type 0
+HasEndedLoading capacity asks asks' = IsAtStep asks' [] ⊎ (length asks'.took ≡ length asks.took + capacity)

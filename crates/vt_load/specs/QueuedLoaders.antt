@@ -8,10 +8,10 @@ use Rattle.vt_queue.specs.declared.items.Loaded.{Loaded}
 use Rattle.vt_queue.specs.declared.views.PassView.{PassView}
 use Rattle.vt_queue.specs.declared.queue.QueuePass.{QueuePass}
 use Rattle.vt_queue.specs.PassViews.{pass_view, shares_of}
-use Rattle.vt_queue.specs.Queues.{view_of, IsOf, capacity_of}
+use Rattle.vt_queue.specs.Queues.{queue_view_of, IsPassOfQueue, capacity_of}
 use Rattle.vt_load.specs.declared.queued.Queues.{Queues}
 use Rattle.vt_load.specs.Loaders.{LoaderView, with_file}
-use Rattle.vt_load.specs.Loads.{Loads, HasEnded}
+use Rattle.vt_load.specs.Loads.{Loads, HasEndedLoading}
 
 -- a loader, and its passes of the queue of the requests and of that of the results
 pub record QueuedView (F : Type 0) : Type 0 where
@@ -21,17 +21,17 @@ pub record QueuedView (F : Type 0) : Type 0 where
 
 -- the passes are of these queues
 pub record AreOf (q : Queues) (asks : QueuePass Request) (answers : QueuePass Loaded) : Type 0 where
-  pub requests : IsOf q.requests asks
-  pub results : IsOf q.results answers
+  pub requests : IsPassOfQueue q.requests asks
+  pub results : IsPassOfQueue q.results answers
 
 module _ {F : Type 0} where
   -- what the passes of loaders know of the requests
   abbrev pub asks_of : List (QueuedView F) → List (PassView Request)
-  asks_of loaders = map (λ l. view_of l.asks) loaders
+  asks_of loaders = map (λ l. queue_view_of l.asks) loaders
 
   -- and of the results
   abbrev pub answers_of : List (QueuedView F) → List (PassView Loaded)
-  answers_of loaders = map (λ l. view_of l.answers) loaders
+  answers_of loaders = map (λ l. queue_view_of l.answers) loaders
 
   -- the stores that loaders read
   abbrev pub stores_of : List (QueuedView F) → List (StoreView F)
@@ -49,23 +49,23 @@ module _ {F : Type 0} where
   -- it took requests and put their results
   pub record HasLoaded (g : FileMeanings F) (q : Queues) (l m : QueuedView F) : Type 0 where
     pub passes : AreOf q m.asks m.answers
-    pub loads : Loads g l.loader.store.shape l.loader.store.depth (view_of l.asks) (view_of m.asks) (view_of l.answers) (view_of m.answers)
+    pub loads : Loads g l.loader.store.shape l.loader.store.depth (queue_view_of l.asks) (queue_view_of m.asks) (queue_view_of l.answers) (queue_view_of m.answers)
         l.loader.store.file m.loader.store.file
-    pub ended : HasEnded (capacity_of q.requests) (view_of l.asks) (view_of m.asks)
+    pub ended : HasEndedLoading (capacity_of q.requests) (queue_view_of l.asks) (queue_view_of m.asks)
     pub same : m.loader ≡ with_file l.loader m.loader.store.file
 
   -- it reads a store that is cut in this way, has samples of so many bytes and tells these bytes
-  pub record IsLoaderOf (g : FileMeanings F) (s : Shape) (d : ℕ) (told : Option (List ℕ)) (l : QueuedView F) : Type 0 where
+  pub record IsLoaderOf (g : FileMeanings F) (s : Shape) (d : ℕ) (known : Option (List ℕ)) (l : QueuedView F) : Type 0 where
     pub shape : l.loader.store.shape ≡ s
     pub depth : l.loader.store.depth ≡ d
-    pub told_is : g.bytes l.loader.store.file ≡ told
+    pub known_is : g.bytes l.loader.store.file ≡ known
 
   -- it has taken and put nothing yet
   pub record IsNew (l : QueuedView F) : Type 0 where
-    pub no_takes : (view_of l.asks).took ≡ []
-    pub no_asks : (view_of l.asks).put ≡ []
-    pub no_results : (view_of l.answers).put ≡ []
-    pub no_answers : (view_of l.answers).took ≡ []
+    pub no_takes : (queue_view_of l.asks).took ≡ []
+    pub no_asks : (queue_view_of l.asks).put ≡ []
+    pub no_results : (queue_view_of l.answers).put ≡ []
+    pub no_answers : (queue_view_of l.answers).took ≡ []
 
 -- Passes of the two queues were split off for loaders, which have taken and put nothing: the passes that are left have what they put and
 -- took, and together all have as many shares as before.

@@ -12,12 +12,12 @@ use Rattle.vt_queue.specs.declared.items.Outcome.TheVariants.{Read}
 use Rattle.vt_load.specs.Readings.{is_lost}
 
 -- what a request asks for: its ticket and its page
-abbrev pub wanted_by : Request → ℕ × ℕ
-wanted_by request = (request.ticket, request.page)
+abbrev pub ticket_and_page : Request → ℕ × ℕ
+ticket_and_page request = (request.ticket, request.page)
 
 -- what a result is the answer to
-abbrev pub given_by : Loaded → ℕ × ℕ
-given_by result = wanted_by result.request
+abbrev pub answered_by : Loaded → ℕ × ℕ
+answered_by result = ticket_and_page result.request
 
 -- the place of a result's read, with whether it failed
 abbrev pub read_place : Shape → ℕ → Loaded → Place
@@ -27,10 +27,10 @@ read_place s d result = record { at = tile_start s d result.request.page; len = 
 abbrev pub lost_among : List Loaded → ℕ
 lost_among results = count_by (λ result. is_lost result.outcome) results
 
--- a result's buffer has the length of a tile, and where the tile was read it is that of the result's page, where the bytes are told
-pub record IsGood (told : Option (List ℕ)) (s : Shape) (d : ℕ) (result : Loaded) : Type 0 where
+-- a result's buffer has the length of a tile, and where the tile was read it is that of the result's page, where the bytes are known
+pub record IsGood (known : Option (List ℕ)) (s : Shape) (d : ℕ) (result : Loaded) : Type 0 where
   pub size : length result.request.buffer.elements ≡ tile_length s d
-  pub tile : result.outcome ≡ Read → IfSome told (λ b. IsPiece b (tile_start s d result.request.page) result.request.buffer.elements)
+  pub tile : result.outcome ≡ Read → IfSome known (λ b. IsPiece b (tile_start s d result.request.page) result.request.buffer.elements)
 
 -- a file was read for these results: it was asked for the place of each once and in their order, and its count rose by those that are lost
 pub record IsReadFor {F : Type 0} (g : FileMeanings F) (s : Shape) (d : ℕ) (results : List Loaded) (before after : F) : Type 0 where

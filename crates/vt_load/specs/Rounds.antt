@@ -10,7 +10,7 @@ use Rattle.vt_queue.specs.Orders.{items_of}
 use Rattle.vt_queue.specs.Steps.{IsAtStep}
 use Rattle.vt_load.specs.declared.queued.Queues.{Queues}
 use Rattle.vt_load.specs.Readings.{is_readable}
-use Rattle.vt_load.specs.Results.{wanted_by, given_by, IsGood, IsReadFor}
+use Rattle.vt_load.specs.Results.{ticket_and_page, answered_by, IsGood, IsReadFor}
 use Rattle.vt_load.specs.Together.{Portion, all_put}
 use Rattle.vt_load.specs.QueuedLoaders.{QueuedView, asks_of, answers_of, HasLoaded, IsLoaderOf, AreSplitOff, Collects}
 
@@ -33,7 +33,7 @@ pub record Round (F : Type 0) : Type 0 where
 
 -- both passes were whole and nothing had been taken, nor any result put; each loader read a store that is cut in this way, and each request
 -- is one that it can read; and as many results were taken as requests had been put
-pub record IsRound {F : Type 0} (g : FileMeanings F) (q : Queues) (s : Shape) (d : ℕ) (told : Option (List ℕ)) (r : Round F) : Type 0 where
+pub record IsRound {F : Type 0} (g : FileMeanings F) (q : Queues) (s : Shape) (d : ℕ) (known : Option (List ℕ)) (r : Round F) : Type 0 where
   pub asks_all : r.asks.shares ≡ all_shares
   pub no_takes : r.asks.took ≡ []
   pub answers_all : r.answers.shares ≡ all_shares
@@ -41,7 +41,7 @@ pub record IsRound {F : Type 0} (g : FileMeanings F) (q : Queues) (s : Shape) (d
   pub no_answers : r.answers.took ≡ []
   pub readable : All (λ request. is_readable s d request ≡ true) (items_of r.asks.put)
   pub split : AreSplitOff r.asks r.asks_left r.answers r.answers_left r.first
-  pub loaders : All (IsLoaderOf g s d told) r.first
+  pub loaders : All (IsLoaderOf g s d known) r.first
   pub number : length r.last ≡ length r.first
   pub loaded : (k : ℕ) (e : QueuedView F) → k < length r.first → HasLoaded g q (slice_index_or r.first k e) (slice_index_or r.last k e)
   pub asks_joined : r.asks_back ≡ all_joined r.asks_left (asks_of r.last)
@@ -52,9 +52,9 @@ pub record IsRound {F : Type 0} (g : FileMeanings F) (q : Queues) (s : Shape) (d
 
 -- each request was answered once: the results are those of the requests, each as often, and good; nothing is left in either queue; and
 -- each loader's file was read for results of its own, which together are those that were taken
-pub record AreServed {F : Type 0} (g : FileMeanings F) (s : Shape) (d : ℕ) (told : Option (List ℕ)) (r : Round F) : Type 0 where
-  pub each : IsPermutation (map wanted_by (items_of r.asks.put)) (map given_by r.results)
-  pub good : All (IsGood told s d) r.results
+pub record AreServed {F : Type 0} (g : FileMeanings F) (s : Shape) (d : ℕ) (known : Option (List ℕ)) (r : Round F) : Type 0 where
+  pub each : IsPermutation (map ticket_and_page (items_of r.asks.put)) (map answered_by r.results)
+  pub good : All (IsGood known s d) r.results
   pub none_unread : r.unread ≡ []
   pub none_over : r.over ≡ []
   pub portions : List (Portion F)

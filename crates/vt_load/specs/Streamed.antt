@@ -17,7 +17,7 @@ abbrev pub with_taken : PassView Loaded → List (ℕ × Loaded) → PassView Lo
 with_taken v got = pass_view v.shares v.known v.put (v.took ++ got)
 
 -- a round as IsRound has it, but that the results were taken before the passes were one again, at least as many as requests had been put
-pub record IsStreamedRound {F : Type 0} (g : FileMeanings F) (q : Queues) (s : Shape) (d : ℕ) (told : Option (List ℕ)) (r : Round F) : Type 0 where
+pub record IsStreamedRound {F : Type 0} (g : FileMeanings F) (q : Queues) (s : Shape) (d : ℕ) (known : Option (List ℕ)) (r : Round F) : Type 0 where
   pub asks_all : r.asks.shares ≡ all_shares
   pub no_takes : r.asks.took ≡ []
   pub answers_all : r.answers.shares ≡ all_shares
@@ -25,7 +25,7 @@ pub record IsStreamedRound {F : Type 0} (g : FileMeanings F) (q : Queues) (s : S
   pub no_answers : r.answers.took ≡ []
   pub readable : All (λ request. is_readable s d request ≡ true) (items_of r.asks.put)
   pub split : AreSplitOff r.asks r.asks_left r.answers r.answers_left r.first
-  pub loaders : All (IsLoaderOf g s d told) r.first
+  pub loaders : All (IsLoaderOf g s d known) r.first
   pub number : length r.last ≡ length r.first
   pub loaded : (k : ℕ) (e : QueuedView F) → k < length r.first → HasLoaded g q (slice_index_or r.first k e) (slice_index_or r.last k e)
   pub asks_joined : r.asks_back ≡ all_joined r.asks_left (asks_of r.last)

@@ -6,7 +6,7 @@ use Rattle.vt_queue.specs.declared.items.Request.{Request}
 use Rattle.vt_queue.specs.declared.items.Loaded.{Loaded}
 use Rattle.vt_queue.specs.Orders.{items_of, gathered, IsFirstInFirstOut}
 use Rattle.vt_load.specs.Readings.{is_readable, AreReadings}
-use Rattle.vt_load.specs.Results.{wanted_by, given_by, IsGood, IsReadFor}
+use Rattle.vt_load.specs.Results.{ticket_and_page, answered_by, IsGood, IsReadFor}
 
 -- what one of several loaders took and put, and its file before and after
 pub record Portion (F : Type 0) : Type 0 where
@@ -16,8 +16,8 @@ pub record Portion (F : Type 0) : Type 0 where
   pub after : F
 
 -- a portion is one of a store: of its requests those that the store can read were read and their results put
-pub record IsPortion {F : Type 0} (g : FileMeanings F) (s : Shape) (d : ℕ) (told : Option (List ℕ)) (portion : Portion F) : Type 0 where
-  pub told_is : g.bytes portion.before ≡ told
+pub record IsPortion {F : Type 0} (g : FileMeanings F) (s : Shape) (d : ℕ) (known : Option (List ℕ)) (portion : Portion F) : Type 0 where
+  pub known_is : g.bytes portion.before ≡ known
   pub read : AreReadings g s d (filter (is_readable s d) (items_of portion.took)) (items_of portion.put) portion.before portion.after
 
 -- the requests that all loaders took
@@ -39,22 +39,22 @@ pub record Exchange : Type 0 where
 
 -- both queues are first in, first out; the loaders took and put what was taken of the one and put into the other; the store can read
 -- each request; and as many results were taken as requests were put
-pub record IsExchange {F : Type 0} (g : FileMeanings F) (s : Shape) (d : ℕ) (told : Option (List ℕ)) (portions : List (Portion F)) (e : Exchange) : Type 0 where
+pub record IsExchange {F : Type 0} (g : FileMeanings F) (s : Shape) (d : ℕ) (known : Option (List ℕ)) (portions : List (Portion F)) (e : Exchange) : Type 0 where
   pub requests : IsFirstInFirstOut e.asked e.taken e.unread
   pub results : IsFirstInFirstOut e.given e.got e.over
   pub taken_by : IsPermutation e.taken (all_took portions)
   pub given_by_all : IsPermutation e.given (all_put portions)
-  pub portions_are : All (IsPortion g s d told) portions
+  pub portions_are : All (IsPortion g s d known) portions
   pub readable : All (λ request. is_readable s d request ≡ true) (items_of e.asked)
   pub as_many : length e.got ≡ length e.asked
 
 -- each request was answered once: the results that were taken are those of the requests, each as often, and good; nothing is left in
 -- either queue; and each loader's file was read for the results of its portion, which together are those that were taken
-pub record IsAnsweredOnce {F : Type 0} (g : FileMeanings F) (s : Shape) (d : ℕ) (told : Option (List ℕ)) (portions : List (Portion F))
+pub record IsAnsweredOnce {F : Type 0} (g : FileMeanings F) (s : Shape) (d : ℕ) (known : Option (List ℕ)) (portions : List (Portion F))
     (e : Exchange) : Type 0 where
   pub none_unread : e.unread ≡ []
   pub none_over : e.over ≡ []
-  pub each : IsPermutation (map wanted_by (items_of e.asked)) (map given_by (items_of e.got))
-  pub good : All (IsGood told s d) (items_of e.got)
+  pub each : IsPermutation (map ticket_and_page (items_of e.asked)) (map answered_by (items_of e.got))
+  pub good : All (IsGood known s d) (items_of e.got)
   pub among : IsPermutation (items_of (all_put portions)) (items_of e.got)
   pub files : All (λ portion. IsReadFor g s d (items_of portion.put) portion.before portion.after) portions

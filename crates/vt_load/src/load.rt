@@ -7,9 +7,9 @@ ghost use Rattle.vt_tiles.specs.Pages.{pages_of};
 ghost use Rattle.vt_tiles.specs.Format.{tile_start, tile_length};
 ghost use Rattle.vt_tiles.specs.Places.{TileAsked};
 ghost use Rattle.vt_queue.specs.Steps.{Puts};
-ghost use Rattle.vt_queue.specs.Queues.{view_of, splits_of, IsOf, capacity_of};
+ghost use Rattle.vt_queue.specs.Queues.{queue_view_of, queue_splits_of, IsPassOfQueue, capacity_of};
 ghost use Rattle.vt_load.specs.Readings.{is_readable, is_lost, IsReading};
-ghost use Rattle.vt_load.specs.Loads.{Answers, Loads, HasEnded};
+ghost use Rattle.vt_load.specs.Loads.{Answers, Loads, HasEndedLoading};
 
 use std::sync::Wait;
 use std::thread;
@@ -25,9 +25,9 @@ fn put_waiting<Rt: Threads + Wait>(
     answers: &mut QueuePass<Loaded>,
     loaded: Loaded,
 )
-    requires { IsOf results.now answers.old }
-    ensures of { IsOf results.now answers.new × (splits_of answers.new ≡ splits_of answers.old) }
-    ensures puts { Puts (view_of answers.old) loaded (view_of answers.new) }
+    requires { IsPassOfQueue results.now answers.old }
+    ensures of { IsPassOfQueue results.now answers.new × (queue_splits_of answers.new ≡ queue_splits_of answers.old) }
+    ensures puts { Puts (queue_view_of answers.old) loaded (queue_view_of answers.new) }
 {
     let mut item = loaded;
     for _ in rt.forever() {
@@ -115,10 +115,10 @@ fn answer<Rt: Threads + Wait, F: File, G: Gate>(
     answers: &mut QueuePass<Loaded>,
     gate: &G,
 )
-    requires of { IsOf results.now answers.old }
+    requires of { IsPassOfQueue results.now answers.old }
     requires spare { 1 ≤ F.spare store.old.file }
-    ensures of { IsOf results.now answers.new × (splits_of answers.new ≡ splits_of answers.old) }
-    ensures puts { Answers F.File store.old.shape store.old.depth (request ∷ []) (view_of answers.old) (view_of answers.new)
+    ensures of { IsPassOfQueue results.now answers.new × (queue_splits_of answers.new ≡ queue_splits_of answers.old) }
+    ensures puts { Answers F.File store.old.shape store.old.depth (request ∷ []) (queue_view_of answers.old) (queue_view_of answers.new)
         store.old.file store.new.file }
     ensures shape { store.new.shape ≡ store.old.shape }
     ensures depth { store.new.depth ≡ store.old.depth }
@@ -142,14 +142,14 @@ pub(crate) fn load<Rt: Threads + Wait, F: File, G: Gate>(
     answers: &mut QueuePass<Loaded>,
     gate: &G,
 )
-    requires asks { IsOf requests.now asks.old }
-    requires answers { IsOf results.now answers.old }
+    requires asks { IsPassOfQueue requests.now asks.old }
+    requires answers { IsPassOfQueue results.now answers.old }
     requires spare { capacity_of requests.now ≤ F.spare store.old.file }
-    ensures asks { IsOf requests.now asks.new × (splits_of asks.new ≡ splits_of asks.old) }
-    ensures answers { IsOf results.now answers.new × (splits_of answers.new ≡ splits_of answers.old) }
-    ensures loads { Loads F.File store.old.shape store.old.depth (view_of asks.old) (view_of asks.new)
-        (view_of answers.old) (view_of answers.new) store.old.file store.new.file }
-    ensures ended { HasEnded (capacity_of requests.now) (view_of asks.old) (view_of asks.new) }
+    ensures asks { IsPassOfQueue requests.now asks.new × (queue_splits_of asks.new ≡ queue_splits_of asks.old) }
+    ensures answers { IsPassOfQueue results.now answers.new × (queue_splits_of answers.new ≡ queue_splits_of answers.old) }
+    ensures loads { Loads F.File store.old.shape store.old.depth (queue_view_of asks.old) (queue_view_of asks.new)
+        (queue_view_of answers.old) (queue_view_of answers.new) store.old.file store.new.file }
+    ensures ended { HasEndedLoading (capacity_of requests.now) (queue_view_of asks.old) (queue_view_of asks.new) }
     ensures shape { store.new.shape ≡ store.old.shape }
     ensures depth { store.new.depth ≡ store.old.depth }
 {

@@ -1,8 +1,8 @@
 //! A loader.
 
 ghost use Rattle.std.specs.Prelude.{◌≡◌, ◌≤◌, OnOk, OnErr};
-ghost use Rattle.vt_queue.specs.Queues.{view_of, splits_of, IsOf, capacity_of};
-ghost use Rattle.vt_load.specs.Loads.{Loads, HasEnded};
+ghost use Rattle.vt_queue.specs.Queues.{queue_view_of, queue_splits_of, IsPassOfQueue, capacity_of};
+ghost use Rattle.vt_load.specs.Loads.{Loads, HasEndedLoading};
 ghost use Rattle.vt_load.specs.Loaders.{with_file};
 
 use crate::load::load;
@@ -64,14 +64,14 @@ impl<F: File> Loader<F> {
         answers: &mut QueuePass<Loaded>,
         gate: &G,
     )
-        requires asks { IsOf requests.now asks.old }
-        requires answers { IsOf results.now answers.old }
+        requires asks { IsPassOfQueue requests.now asks.old }
+        requires answers { IsPassOfQueue results.now answers.old }
         requires room { capacity_of requests.now ≤ F.spare self.old.store.file }
-        ensures asks { IsOf requests.now asks.new × (splits_of asks.new ≡ splits_of asks.old) }
-        ensures answers { IsOf results.now answers.new × (splits_of answers.new ≡ splits_of answers.old) }
-        ensures loads { Loads F.File self.old.store.shape self.old.store.depth (view_of asks.old) (view_of asks.new)
-            (view_of answers.old) (view_of answers.new) self.old.store.file self.new.store.file }
-        ensures ended { HasEnded (capacity_of requests.now) (view_of asks.old) (view_of asks.new) }
+        ensures asks { IsPassOfQueue requests.now asks.new × (queue_splits_of asks.new ≡ queue_splits_of asks.old) }
+        ensures answers { IsPassOfQueue results.now answers.new × (queue_splits_of answers.new ≡ queue_splits_of answers.old) }
+        ensures loads { Loads F.File self.old.store.shape self.old.store.depth (queue_view_of asks.old) (queue_view_of asks.new)
+            (queue_view_of answers.old) (queue_view_of answers.new) self.old.store.file self.new.store.file }
+        ensures ended { HasEndedLoading (capacity_of requests.now) (queue_view_of asks.old) (queue_view_of asks.new) }
         ensures same { self.new ≡ with_file self.old self.new.store.file }
     {
         load(

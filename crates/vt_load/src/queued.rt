@@ -6,7 +6,7 @@ ghost use Rattle.vt_queue.specs.Limits.{most_loaders};
 ghost use Rattle.vt_tiles.specs.Shape.{Shape};
 ghost use Rattle.vt_queue.specs.PassViews.{all_shares, split_part, Splits, all_joined};
 ghost use Rattle.vt_queue.specs.Steps.{IsAtStep};
-ghost use Rattle.vt_queue.specs.Queues.{view_of, splits_of, IsOf, capacity_of};
+ghost use Rattle.vt_queue.specs.Queues.{queue_view_of, queue_splits_of, IsPassOfQueue, capacity_of};
 ghost use Rattle.vt_queue.specs.declared.items.Request.{Request as Ask};
 ghost use Rattle.vt_queue.specs.declared.items.Loaded.{Loaded as Answer};
 ghost use Rattle.vt_load.specs.QueuedLoaders.{AreOf, MayLoad, HasLoaded, IsLoaderOf, AreSplitOff, asks_of, answers_of, stores_of, numbers_of};
@@ -91,14 +91,14 @@ impl<F: File> QueuedLoader<F> {
 // Splits a pass off one that has splits left.
 #[tactic(auto, using(crate::proofs::Dealing::part_small))]
 fn split_off<I>(queue: &Queue<I>, alloc: Global, pass: &mut QueuePass<I>) -> QueuePass<I>
-    requires of { IsOf queue.now pass.old }
-    requires some { 1 ≤ splits_of pass.old }
-    requires few { splits_of pass.old ≤ all_shares }
-    ensures of { IsOf queue.now pass.new }
-    ensures other { IsOf queue.now result }
-    ensures splits { Splits (view_of pass.old) (view_of pass.new) (view_of result) }
-    ensures less { splits_of pass.new ≤ splits_of pass.old }
-    ensures left { splits_of pass.old ≤ splits_of pass.new + all_shares / split_part + 1 }
+    requires of { IsPassOfQueue queue.now pass.old }
+    requires some { 1 ≤ queue_splits_of pass.old }
+    requires few { queue_splits_of pass.old ≤ all_shares }
+    ensures of { IsPassOfQueue queue.now pass.new }
+    ensures other { IsPassOfQueue queue.now result }
+    ensures splits { Splits (queue_view_of pass.old) (queue_view_of pass.new) (queue_view_of result) }
+    ensures less { queue_splits_of pass.new ≤ queue_splits_of pass.old }
+    ensures left { queue_splits_of pass.old ≤ queue_splits_of pass.new + all_shares / split_part + 1 }
 {
     match queue.split(alloc, pass) {
         Ok(other) => other,
@@ -116,17 +116,17 @@ fn loader_for<F: File>(
     number: u32,
 ) -> QueuedLoader<F>
     requires passes { AreOf queues.now asks.old answers.old }
-    requires some { (1 ≤ splits_of asks.old) × (1 ≤ splits_of answers.old) }
-    requires few { (splits_of asks.old ≤ all_shares) × (splits_of answers.old ≤ all_shares) }
+    requires some { (1 ≤ queue_splits_of asks.old) × (1 ≤ queue_splits_of answers.old) }
+    requires few { (queue_splits_of asks.old ≤ all_shares) × (queue_splits_of answers.old ≤ all_shares) }
     ensures passes { AreOf queues.now asks.new answers.new }
     ensures other { AreOf queues.now result.asks result.answers }
     ensures store { result.loader.store ≡ store }
     ensures number { result.loader.loader ≡ number }
-    ensures asks { Splits (view_of asks.old) (view_of asks.new) (view_of result.asks) }
-    ensures answers { Splits (view_of answers.old) (view_of answers.new) (view_of result.answers) }
-    ensures less { (splits_of asks.new ≤ splits_of asks.old) × (splits_of answers.new ≤ splits_of answers.old) }
-    ensures left { (splits_of asks.old ≤ splits_of asks.new + all_shares / split_part + 1)
-        × (splits_of answers.old ≤ splits_of answers.new + all_shares / split_part + 1) }
+    ensures asks { Splits (queue_view_of asks.old) (queue_view_of asks.new) (queue_view_of result.asks) }
+    ensures answers { Splits (queue_view_of answers.old) (queue_view_of answers.new) (queue_view_of result.answers) }
+    ensures less { (queue_splits_of asks.new ≤ queue_splits_of asks.old) × (queue_splits_of answers.new ≤ queue_splits_of answers.old) }
+    ensures left { (queue_splits_of asks.old ≤ queue_splits_of asks.new + all_shares / split_part + 1)
+        × (queue_splits_of answers.old ≤ queue_splits_of answers.new + all_shares / split_part + 1) }
 {
     let theirs = split_off(&queues.requests, alloc, asks);
     let results = split_off(&queues.results, alloc, answers);
@@ -144,7 +144,7 @@ pub fn deal<F: File>(
     loaders: &mut Items<QueuedLoader<F>>,
 )
     requires passes { AreOf queues.now asks.old answers.old }
-    requires splits { (splits_of asks.old + 1 ≡ all_shares) × (splits_of answers.old + 1 ≡ all_shares) }
+    requires splits { (queue_splits_of asks.old + 1 ≡ all_shares) × (queue_splits_of answers.old + 1 ≡ all_shares) }
     requires few { length stores.old.elements ≤ most_loaders }
     requires none { loaders.old.elements ≡ [] }
     requires room { length stores.old.elements ≤ loaders.old.spare }
@@ -154,11 +154,11 @@ pub fn deal<F: File>(
     ensures room { length loaders.new.elements ≤ stores.new.spare }
     ensures loaders { reverse (stores_of loaders.new.elements) ≡ stores.old.elements }
     ensures numbers { reverse (numbers_of loaders.new.elements) ≡ range_with_len 0 (length stores.old.elements) }
-    ensures of { (s : Shape) (d : ℕ) (told : Option (List ℕ))
-        → All (λ store. (store.shape ≡ s) × (store.depth ≡ d) × (F.bytes store.file ≡ told)) stores.old.elements
-        → All (IsLoaderOf F.File s d told) loaders.new.elements }
+    ensures of { (s : Shape) (d : ℕ) (known : Option (List ℕ))
+        → All (λ store. (store.shape ≡ s) × (store.depth ≡ d) × (F.bytes store.file ≡ known)) stores.old.elements
+        → All (IsLoaderOf F.File s d known) loaders.new.elements }
     ensures may { All (MayLoad F.File queues.now) loaders.new.elements }
-    ensures split_off { AreSplitOff (view_of asks.old) (view_of asks.new) (view_of answers.old) (view_of answers.new) loaders.new.elements }
+    ensures split_off { AreSplitOff (queue_view_of asks.old) (queue_view_of asks.new) (queue_view_of answers.old) (queue_view_of answers.new) loaders.new.elements }
 {
     while let Some(store) = stores.pop() {
         let number = stores.len();
@@ -182,11 +182,11 @@ pub fn take_back<F: File>(
     requires none { stores.old.elements ≡ [] }
     requires room { length loaders.elements ≤ stores.old.spare }
     ensures passes { AreOf queues.now asks.new answers.new }
-    ensures asks { view_of asks.new ≡ all_joined (view_of asks.old) (asks_of loaders.elements) }
-    ensures answers { view_of answers.new ≡ all_joined (view_of answers.old) (answers_of loaders.elements) }
+    ensures asks { queue_view_of asks.new ≡ all_joined (queue_view_of asks.old) (asks_of loaders.elements) }
+    ensures answers { queue_view_of answers.new ≡ all_joined (queue_view_of answers.old) (answers_of loaders.elements) }
     ensures stores { stores.new.elements ≡ reverse (stores_of loaders.elements) }
-    ensures asks_at_step { (left : List Ask) × IsAtStep (view_of asks.new) left }
-    ensures answers_at_step { (left : List Answer) × IsAtStep (view_of answers.new) left }
+    ensures asks_at_step { (left : List Ask) × IsAtStep (queue_view_of asks.new) left }
+    ensures answers_at_step { (left : List Answer) × IsAtStep (queue_view_of answers.new) left }
 {
     while let Some(loader) = loaders.pop() {
         let (store, theirs, given) = loader.into_parts();

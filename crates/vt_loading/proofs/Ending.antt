@@ -26,7 +26,7 @@ use Rattle.vt_load.proofs.Streaming.{exact, served}
 use Rattle.vt_requests.specs.Outcomes.{lost_count, IsOutcome}
 use Rattle.vt_requests.specs.Requests.{FileState, times_planned, lost_entries, counts_of, AreReadFor}
 use Rattle.vt_requests.specs.Machines.{file_state, files_of}
-use Rattle.vt_requests.specs.BatchRounds.{result_events, IsResultOf, AreLossesOf, Begun, IsEndedRound}
+use Rattle.vt_requests.specs.BatchRounds.{result_events, IsResultOf, AreLossesOf, BegunRound, IsEndedRound}
 use Rattle.vt_requests.proofs.BatchRounds.{results_of_entries, round_outcome, round_read}
 use Rattle.vt_requests.specs.TakenResults.{Streams}
 use Rattle.vt_queue.proofs.OrderLemmas.{joined_shares}
@@ -43,10 +43,10 @@ read_reversed : (s : Shape) (d : ℕ) (batch : List Planned) (losses : List Bool
 read_reversed s d batch losses before after r = record {
   same = record {
     names = map_reverse (λ (f : FileState). f.name) after ∙ ap reverse r.same.names ∙ sym (map_reverse (λ (f : FileState). f.name) before);
-    tell = map_reverse (λ (f : FileState). is_some f.asked) after ∙ ap reverse r.same.tell ∙ sym (map_reverse (λ (f : FileState). is_some f.asked) before);
+    all_known = map_reverse (λ (f : FileState). is_some f.asked) after ∙ ap reverse r.same.all_known ∙ sym (map_reverse (λ (f : FileState). is_some f.asked) before);
   };
-  once = λ tell.
-      let all = All-permutation (λ (f : FileState). IsSome f.asked) (reverse before) before (IsPermutation-sym _ _ (IsPermutation-reverse before)) tell in
+  once = λ all_known.
+      let all = All-permutation (λ (f : FileState). IsSome f.asked) (reverse before) before (IsPermutation-sym _ _ (IsPermutation-reverse before)) all_known in
       record {
         asked = λ at len.
             let t : FileState → ℕ = λ f. times_asked at len (unwrap_or f.asked []) in
@@ -76,7 +76,7 @@ module _ {F : Type 0} (g : FileMeanings F) (q : Queues) (s : Shape) (batch : Lis
     (joined : asks_back ≡ all_joined asks (asks_of last)) (at_step : IsAtStep asks_back unread)
     (took : Streams (length batch) answers answers_back taken results) (all : length results ≡ length batch)
     (given : answers_end ≡ all_joined answers_back (answers_of last)) (end_at_step : IsAtStep answers_end over)
-    (b : Begun F) (ended : IsEndedRound g q s batch asks answers last b) where
+    (b : BegunRound F) (ended : IsEndedRound g q s batch asks answers last b) where
   -- the round, with these results
   with_results : List Loaded → Round F
   with_results xs = record {
@@ -94,7 +94,7 @@ module _ {F : Type 0} (g : FileMeanings F) (q : Queues) (s : Shape) (batch : Lis
     over = over;
   }
 
-  is_streamed : IsStreamedRound g q s b.depth b.told (with_results (items_of took.got))
+  is_streamed : IsStreamedRound g q s b.depth b.known (with_results (items_of took.got))
   unfolding with_results
   is_streamed = record {
     asks_all = ended.asked.whole;
@@ -120,14 +120,14 @@ module _ {F : Type 0} (g : FileMeanings F) (q : Queues) (s : Shape) (batch : Lis
   -- the results that were kept are those that were taken
   results_are : results ≡ items_of took.got
   unfolding is_streamed with_results
-  results_are = took.exact (exact g s b.depth b.told q (with_results (items_of took.got)) is_streamed ∙ ended.asked.count ∙ sym all)
+  results_are = took.exact (exact g s b.depth b.known q (with_results (items_of took.got)) is_streamed ∙ ended.asked.count ∙ sym all)
 
-  is_served : AreServed g s b.depth b.told (with_results results)
-  is_served = subst (λ (xs : List Loaded). AreServed g s b.depth b.told (with_results xs)) (sym results_are)
-      (served g s b.depth b.told q (with_results (items_of took.got)) is_streamed)
+  is_served : AreServed g s b.depth b.known (with_results results)
+  is_served = subst (λ (xs : List Loaded). AreServed g s b.depth b.known (with_results xs)) (sym results_are)
+      (served g s b.depth b.known q (with_results (items_of took.got)) is_streamed)
 
-  together : Gathering g q s b.depth b.told b.first last
-  together = gathering g q s b.depth b.told b.first last ended.number ended.split.new ended.loaders ended.loaded
+  together : Gathering g q s b.depth b.known b.first last
+  together = gathering g q s b.depth b.known b.first last ended.number ended.split.new ended.loaders ended.loaded
 
   -- the passes of the queues are whole again
   pub asks_whole : asks_back.shares ≡ all_shares
@@ -152,9 +152,9 @@ module _ {F : Type 0} (g : FileMeanings F) (q : Queues) (s : Shape) (batch : Lis
 
   pub all_entries : All (IsResultOf batch) results
   unfolding with_results
-  all_entries = results_of_entries g s b.depth b.told (with_results results) is_served batch ended.asked.requests
+  all_entries = results_of_entries g s b.depth b.known (with_results results) is_served batch ended.asked.requests
 
-  pub all_good : All (IsGood b.told s b.depth) results
+  pub all_good : All (IsGood b.known s b.depth) results
   unfolding with_results
   all_good = is_served.good
 
@@ -164,13 +164,13 @@ module _ {F : Type 0} (g : FileMeanings F) (q : Queues) (s : Shape) (batch : Lis
   module _ (losses : List Bool) (losses_are : AreLossesOf batch results losses) where
     pub outcome : (events : List Event) → events ≡ result_events batch results → IsOutcome batch losses events
     unfolding with_results
-    outcome events is = round_outcome g s b.depth b.told (with_results results) is_served batch ended.asked.requests losses losses_are events is
+    outcome events is = round_outcome g s b.depth b.known (with_results results) is_served batch ended.asked.requests losses losses_are events is
 
     pub read : AreReadFor s b.depth batch losses (files_of g (reverse (stores_of b.first))) (files_of g (reverse (stores_of last)))
     unfolding with_results
     read = subst (λ (z : List FileState × List FileState). AreReadFor s b.depth batch losses z.0 z.1)
         (λ i. (sym (files_reversed b.first) i, sym (files_reversed last) i))
-        (read_reversed s b.depth batch losses _ _ (round_read g s b.depth b.told (with_results results) is_served batch ended.asked.requests losses losses_are))
+        (read_reversed s b.depth batch losses _ _ (round_read g s b.depth b.known (with_results results) is_served batch ended.asked.requests losses losses_are))
       where
         files_reversed : (ls : List (QueuedView F)) → files_of g (reverse (stores_of ls)) ≡ reverse (files_of g (stores_of ls))
         files_reversed ls = map_reverse (λ (store : StoreView F). file_state g store.file) (stores_of ls)

@@ -8,7 +8,7 @@ use Rattle.vt_outside.specs.declared.outside.File.{Ghosts as FileMeanings}
 use Rattle.vt_tiles.specs.Shape.{Shape}
 use Rattle.vt_tiles.specs.StoreViews.{StoreView}
 use Rattle.vt_requests.proofs.Lent.{refilled}
-use Rattle.vt_requests.specs.Machines.{file_state, files_of, told_by, AreStoresFor}
+use Rattle.vt_requests.specs.Machines.{file_state, files_of, known_bytes, AreStoresFor}
 use Rattle.vt_loading.specs.SameStores.{IsSameStore, AreSameStores}
 
 module _ {F : Type 0} (g : FileMeanings F) where
@@ -74,11 +74,11 @@ module _ {F : Type 0} (g : FileMeanings F) where
   pub room_all : (reads n : ℕ) (stores : List (StoreView F)) → HaveRoom reads n stores → length stores ≤ n → All (λ store. reads ≤ g.spare store.file) stores
   room_all reads n stores h all k d inside = h.each k d (omega (arith, all, inside)) inside
 
-  pub told_same : (before after : List (StoreView F)) → AreSameStores g before after → told_by g after ≡ told_by g before
-  told_same [] [] h = refl
-  told_same [] (y ∷ ys) h = absurd (let n = h.number in omega (arith, n))
-  told_same (x ∷ xs) [] h = absurd (let n = h.number in omega (arith, n))
-  told_same (x ∷ xs) (y ∷ ys) h = (h.each 0 x (omega arith)).bytes
+  pub known_same : (before after : List (StoreView F)) → AreSameStores g before after → known_bytes g after ≡ known_bytes g before
+  known_same [] [] h = refl
+  known_same [] (y ∷ ys) h = absurd (let n = h.number in omega (arith, n))
+  known_same (x ∷ xs) [] h = absurd (let n = h.number in omega (arith, n))
+  known_same (x ∷ xs) (y ∷ ys) h = (h.each 0 x (omega arith)).bytes
 
   pub files_same : (before after : List (StoreView F)) → AreSameStores g before after → files_of g after ≡ files_of g before
   files_same before after h = same_by before after h.number (λ k d inside. (h.each k d inside).file) where
@@ -98,7 +98,7 @@ module _ {F : Type 0} (g : FileMeanings F) where
     count = h.number ∙ are.count;
     shapes = λ k x inside. let low = below k inside in (h.each k x low).shape ∙ are.shapes k x low;
     depths = λ k x inside. let low = below k inside in (h.each k x low).depth ∙ are.depths k x low;
-    told = λ k x inside. let low = below k inside in (h.each k x low).bytes ∙ are.told k x low ∙ sym (told_same before after h);
+    known = λ k x inside. let low = below k inside in (h.each k x low).bytes ∙ are.known k x low ∙ sym (known_same before after h);
   } where
     below : (k : ℕ) → k < length after → k < length before
     below k inside = let n = h.number in omega (arith, n, inside)

@@ -13,7 +13,7 @@ pub use Rattle.vt_requests.specs.Requests
 pub use Rattle.vt_requests.specs.RowOrders
 pub use Rattle.vt_requests.specs.Sizes
 pub use Rattle.vt_requests.specs.declared as RequestsTypes
-pub mod StreamKits
+pub mod LoaderPools
 pub mod StreamBacks
-pub mod RoundKits
+pub mod RoundStocks
 pub mod SameStores

@@ -9,28 +9,28 @@ use Rattle.vt_tiles.specs.StoreViews.{StoreView}
 use Rattle.vt_requests.specs.PlanTypes.batches.Planned.{Planned}
 use Rattle.vt_queue.specs.declared.queue.QueuePass.{QueuePass}
 use Rattle.vt_queue.specs.declared.items.Loaded.{Loaded}
-use Rattle.vt_queue.specs.Queues.{IsOf, view_of}
+use Rattle.vt_queue.specs.Queues.{IsPassOfQueue, queue_view_of}
 use Rattle.vt_load.specs.declared.queued.Queues.{Queues}
 use Rattle.vt_load.specs.QueuedLoaders.{QueuedView, HasLoaded, stores_of}
 use Rattle.vt_requests.specs.All.{AllDid}
-use Rattle.vt_requests.specs.Machines.{told_by}
-use Rattle.vt_requests.specs.BatchRounds.{Begun as Round, AreLossesOf}
+use Rattle.vt_requests.specs.Machines.{known_bytes}
+use Rattle.vt_requests.specs.BatchRounds.{BegunRound as Round, AreLossesOf}
 use Rattle.vt_requests.specs.Sizes.{AreSized}
 use Rattle.vt_requests.specs.declared.report.StreamReport.{StreamReport}
 use Rattle.vt_requests.specs.TakenResults.{Streams}
-use Rattle.vt_loading.specs.RoundKits.{IsDealt}
-use Rattle.vt_loading.specs.StreamKits.{StreamKitView, IsStreamKit, IsAskedStream, AreLoadersOut, StreamBegun, MayEndStream}
+use Rattle.vt_loading.specs.RoundStocks.{IsDealt}
+use Rattle.vt_loading.specs.LoaderPools.{LoaderPoolView, IsLoaderPool, IsAskedStream, AreLoadersOut, StreamBegun, MayEndStream}
 
--- loaders were made of the stores of a kit
-module _ {F : Type 0} (g : FileMeanings F) (was b : QueuePass Loaded) (k : StreamKitView F) (a : List (QueuedView F)) where
+-- loaders were made of the stores of a pool
+module _ {F : Type 0} (g : FileMeanings F) (was b : QueuePass Loaded) (k : LoaderPoolView F) (a : List (QueuedView F)) where
   -- how the round of the loaders began
   unfoldable pub round : Round F
   round = record {
-    asks = view_of k.round.asks;
-    answers = view_of was;
+    asks = queue_view_of k.round.asks;
+    answers = queue_view_of was;
     first = a;
     depth = k.depth;
-    told = told_by g k.stores;
+    known = known_bytes g k.stores;
   }
 
   -- how the loaders' work began
@@ -38,12 +38,12 @@ module _ {F : Type 0} (g : FileMeanings F) (was b : QueuePass Loaded) (k : Strea
   stream_begun = record { round = round; answers = b }
 
 -- they have loaded, and a result was taken for each entry of the batch
-module _ {F : Type 0} (g : FileMeanings F) (q : Queues) (was b d : QueuePass Loaded) (k l : StreamKitView F) (batch : List Planned)
+module _ {F : Type 0} (g : FileMeanings F) (q : Queues) (was b d : QueuePass Loaded) (k l : LoaderPoolView F) (batch : List Planned)
     (given report : StreamReport) (a c : List (QueuedView F)) (out : AreLoadersOut g q k l was b a) (asked : IsAskedStream g q was given k batch)
     (number : length c ≡ length a) (did_load : AllDid (HasLoaded g q) a c)
-    (took : Streams (length batch) (view_of b) (view_of d) report.taken.elements report.results.elements)
+    (took : Streams (length batch) (queue_view_of b) (queue_view_of d) report.taken.elements report.results.elements)
     (all : length report.results.elements ≡ length batch) (losses : AreLossesOf batch report.results.elements report.losses.elements)
-    (results : IsOf q.results d) where
+    (results : IsPassOfQueue q.results d) where
   -- a loader was made of each store
   dealt : IsDealt g q k.round l.round was b k.stores a
   dealt = out.dealt
@@ -52,23 +52,23 @@ module _ {F : Type 0} (g : FileMeanings F) (q : Queues) (was b d : QueuePass Loa
   number_is = sym (length-reverse (stores_of a) ∙ length-map a (λ (x : QueuedView F). x.loader.store)) ∙ ap length dealt.stores_are
 
   sizes : AreSized (tile_length k.shape k.depth) l.round.buffers.elements
-  sizes = subst (λ (x : ListView (ListView ℕ)). AreSized (tile_length k.shape k.depth) x.elements) (sym dealt.buffers) asked.kit.buffers
+  sizes = subst (λ (x : ListView (ListView ℕ)). AreSized (tile_length k.shape k.depth) x.elements) (sym dealt.buffers) asked.pool.buffers
 
-  -- the kit is as it was but for its requests
-  same_kit : IsStreamKit g (record k { stores = reverse (stores_of a); round = l.round })
-  same_kit = subst (λ (x : List (StoreView F)). IsStreamKit g (record k { stores = x; round = l.round })) (sym dealt.stores_are) (record {
-    crew = asked.kit.crew;
-    depth = asked.kit.depth;
-    stores = asked.kit.stores;
-    told = asked.kit.told;
+  -- the pool is as it was but for its requests
+  same_pool : IsLoaderPool g (record k { stores = reverse (stores_of a); round = l.round })
+  same_pool = subst (λ (x : List (StoreView F)). IsLoaderPool g (record k { stores = x; round = l.round })) (sym dealt.stores_are) (record {
+    crew = asked.pool.crew;
+    depth = asked.pool.depth;
+    stores = asked.pool.stores;
+    known = asked.pool.known;
     buffers = sizes;
   })
 
   -- they may be taken back
   pub stream_back : MayEndStream g q l batch c d report (stream_begun g was b k a)
   unfolding stream_begun round
-  stream_back = subst (λ (x : StreamKitView F). MayEndStream g q x batch c d report (stream_begun g was b k a)) (sym out.rest) (record {
-    kit = same_kit;
+  stream_back = subst (λ (x : LoaderPoolView F). MayEndStream g q x batch c d report (stream_begun g was b k a)) (sym out.rest) (record {
+    pool = same_pool;
     took = took;
     all = all;
     losses = losses;
@@ -78,18 +78,18 @@ module _ {F : Type 0} (g : FileMeanings F) (q : Queues) (was b d : QueuePass Loa
       no_results = ap (λ w. w.put) asked.queued.no_answers;
       no_answers = ap (λ w. w.took) asked.queued.no_answers;
       split = dealt.split;
-      depth_is = asked.kit.depth;
-      loaders = dealt.of k.shape k.depth (told_by g k.stores) (λ j x inside. let are = asked.kit.stores in
-          (are.shapes j x inside, are.depths j x inside, are.told j x inside));
+      depth_is = asked.pool.depth;
+      loaders = dealt.of k.shape k.depth (known_bytes g k.stores) (λ j x inside. let are = asked.pool.stores in
+          (are.shapes j x inside, are.depths j x inside, are.known j x inside));
       number = number;
       loaded = did_load;
     };
     depth_is = refl;
-    told_is = ap (told_by g) (sym dealt.stores_are);
+    known_is = ap (known_bytes g) (sym dealt.stores_are);
     no_stores = refl;
     passes = record { requests = dealt.passes.requests; results = results };
     loaders_of = λ j x inside. (did_load j x (omega (arith, number, inside))).passes;
-    some = (let x = asked.kit.crew.some_loader in let y = asked.kit.stores.count in let z = number_is in omega (arith, x, y, z, number));
+    some = (let x = asked.pool.crew.some_loader in let y = asked.pool.stores.count in let z = number_is in omega (arith, x, y, z, number));
     stores_room = (let x = dealt.room in omega (arith, x, number));
     buffers = subst (λ (x : ListView (ListView ℕ)). length batch ≤ x.spare) (sym dealt.buffers) asked.queued.buffers;
   })

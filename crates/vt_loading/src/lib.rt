@@ -1,13 +1,13 @@
 //! What the loaders of a pass work with, whoever streams their results and whoever draws meanwhile: requests, stores and buffers.
 #![tactic(auto)]
 
-mod kit;
+mod pool;
 mod room;
 mod round;
 
-pub use kit::StreamKit;
+pub use pool::LoaderPool;
 pub use room::{reserve_reads, with_room};
-pub use round::{RoundKit, blank_report, new_queues};
+pub use round::{RoundStock, blank_report, new_queues};
 pub use vt_requests::{
     Batch, Crew, PassMachine, PassReport, Planned, Task, answered, work_together,
 };

@@ -10,12 +10,12 @@ ghost use Rattle.vt_queue.specs.declared.items.Loaded.{Loaded as Answer};
 ghost use Rattle.vt_queue.specs.declared.queue.QueuePass.{QueuePass as Token};
 ghost use Rattle.vt_queue.specs.PassViews.{all_shares, first_view, all_joined};
 ghost use Rattle.vt_queue.specs.Steps.{IsAtStep};
-ghost use Rattle.vt_queue.specs.Queues.{view_of, splits_of, IsOf, capacity_of};
+ghost use Rattle.vt_queue.specs.Queues.{queue_view_of, queue_splits_of, IsPassOfQueue, capacity_of};
 ghost use Rattle.vt_load.specs.QueuedLoaders.{AreOf, MayLoad, stores_of, asks_of, answers_of};
 ghost use Rattle.vt_requests.specs.MachineTypes.crew.Crew.{Crew as Hands};
 ghost use Rattle.vt_requests.specs.Sizes.{AreSized};
 ghost use Rattle.vt_requests.specs.BlankReports.{IsBlank};
-ghost use Rattle.vt_loading.specs.RoundKits.{AreNew, HasPlaces, IsSetUp, IsAsked, IsDealt};
+ghost use Rattle.vt_loading.specs.RoundStocks.{AreNew, HasPlaces, IsSetUp, IsAsked, IsDealt};
 
 use crate::room::with_room;
 use std::alloc::Global;
@@ -31,7 +31,7 @@ use vt_tiles::Stores;
 
 /// What the loaders of a pass work with: the pass of the requests, and room for the loaders, their stores and the
 /// buffers. Contracts see all of these.
-pub struct RoundKit<F: File> {
+pub struct RoundStock<F: File> {
     alloc: Global,
     asks: QueuePass<Request>,
     loaders: Items<QueuedLoader<F>>,
@@ -41,10 +41,10 @@ pub struct RoundKit<F: File> {
     ghost no_stores: { stores.elements ≡ [] },
 }
 
-impl<F: File> Model for RoundKit<F> {
-    ghost use Rattle.vt_loading.specs.RoundKits.{RoundKitView};
+impl<F: File> Model for RoundStock<F> {
+    ghost use Rattle.vt_loading.specs.RoundStocks.{RoundStockView};
 
-    ghost Value = { RoundKitView F };
+    ghost Value = { RoundStockView F };
 
     ghost view = { λ r. record {
       asks = r.asks;
@@ -119,12 +119,12 @@ fn make_buffers(
     Ok(())
 }
 
-impl<F: File> RoundKit<F> {
-    /// The kit with this pass of requests, which has no buffers.
-    pub fn new(alloc: Global, asks: QueuePass<Request>) -> RoundKit<F>
+impl<F: File> RoundStock<F> {
+    /// The pool with this pass of requests, which has no buffers.
+    pub fn new(alloc: Global, asks: QueuePass<Request>) -> RoundStock<F>
         ensures { result.buffers.elements ≡ [] }
     {
-        RoundKit {
+        RoundStock {
             alloc,
             asks,
             loaders: Items::new(alloc),
@@ -133,9 +133,9 @@ impl<F: File> RoundKit<F> {
         }
     }
 
-    /// Ends the kit.
+    /// Ends the pool.
     pub fn end(self) {
-        let RoundKit {
+        let RoundStock {
             alloc: _,
             asks: _,
             loaders,
@@ -193,8 +193,8 @@ impl<F: File> RoundKit<F> {
 
     /// Puts a request for each entry of a batch into the queues, which are new.
     pub fn ask<Rt: Threads + Wait>(&mut self, rt: &Rt, queues: &Queues, batch: &[Planned])
-        requires of { IsOf queues.now.requests self.old.asks }
-        requires new { view_of self.old.asks ≡ first_view }
+        requires of { IsPassOfQueue queues.now.requests self.old.asks }
+        requires new { queue_view_of self.old.asks ≡ first_view }
         requires room { length batch.now ≤ capacity_of queues.now.requests }
         requires few { length batch.now < 2 ^ 32 }
         requires buffers { length batch.now ≤ length self.old.buffers.elements }
@@ -219,7 +219,7 @@ impl<F: File> RoundKit<F> {
         stores: Stores<F>,
     ) -> Items<QueuedLoader<F>>
         requires passes { AreOf queues.now self.old.asks answers.old }
-        requires splits { (splits_of self.old.asks + 1 ≡ all_shares) × (splits_of answers.old + 1 ≡ all_shares) }
+        requires splits { (queue_splits_of self.old.asks + 1 ≡ all_shares) × (queue_splits_of answers.old + 1 ≡ all_shares) }
         requires few { length stores.elements ≤ most_loaders }
         requires room { length stores.elements ≤ self.old.loaders.spare }
         requires reads { All (λ store. capacity_of queues.now.requests ≤ F.spare store.file) stores.elements }
@@ -255,10 +255,10 @@ impl<F: File> RoundKit<F> {
         requires room { length loaders.elements ≤ self.old.stores.spare }
         ensures stores { result.elements ≡ reverse (stores_of loaders.elements) }
         ensures passes { AreOf queues.now self.new.asks answers.new }
-        ensures asks { view_of self.new.asks ≡ all_joined (view_of self.old.asks) (asks_of loaders.elements) }
-        ensures answers { view_of answers.new ≡ all_joined (view_of answers.old) (answers_of loaders.elements) }
-        ensures asks_at_step { (left : List Ask) × IsAtStep (view_of self.new.asks) left }
-        ensures answers_at_step { (left : List Answer) × IsAtStep (view_of answers.new) left }
+        ensures asks { queue_view_of self.new.asks ≡ all_joined (queue_view_of self.old.asks) (asks_of loaders.elements) }
+        ensures answers { queue_view_of answers.new ≡ all_joined (queue_view_of answers.old) (answers_of loaders.elements) }
+        ensures asks_at_step { (left : List Ask) × IsAtStep (queue_view_of self.new.asks) left }
+        ensures answers_at_step { (left : List Answer) × IsAtStep (queue_view_of answers.new) left }
         ensures buffers { self.new.buffers ≡ self.old.buffers }
     {
         let mut stores = mem::replace(&mut self.stores, Items::new(self.alloc));

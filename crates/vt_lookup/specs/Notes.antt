@@ -8,7 +8,7 @@ use Rattle.vt_grace.specs.declared.views.PassView.{PassView}
 use Rattle.vt_grace.specs.Values.{WordsValue, HeldValue}
 
 -- the table of words is as large as the shape of its pages asks
-pub record Fits (s : Shape) (z : Sizes) : Type 0 where
+pub record FitsShape (s : Shape) (z : Sizes) : Type 0 where
   pub pages : z.pages ≡ pages_of s
   pub texels : z.texels ≡ s.tile * s.tile
   pub root : z.root ≡ root_of s

@@ -7,7 +7,7 @@ ghost use Rattle.vt_pictures.specs.Shots.{shot_row};
 ghost use Rattle.vt_pictures.specs.Evidence.{AreShown, AreRaised};
 ghost use Rattle.vt_grace.specs.PassViews.{NoneAbove};
 ghost use Rattle.vt_grace.specs.Tokens.{IsPassOf, IsHeldOf};
-ghost use Rattle.vt_lookup.specs.Notes.{Fits, IsNotedIn, HasNotedMore, HasHeldMore};
+ghost use Rattle.vt_lookup.specs.Notes.{FitsShape, IsNotedIn, HasNotedMore, HasHeldMore};
 
 use crate::lookup::HeldLookup;
 use vt_grace::{Held, Pass, Words};
@@ -24,7 +24,7 @@ fn draw_under<P: Filter>(
     counts: &mut [u32],
 ) -> Held
     requires of { IsHeldOf words.now held }
-    requires fits { Fits shot.now.geometry.now words.now.sizes }
+    requires fits { FitsShape shot.now.geometry.now words.now.sizes }
     requires rooted { held.view.rooted ≡ true }
     requires depth { IsDepth shot.now.depth }
     requires picture { shot.now.picture < length shot.now.path.now.cameras }
@@ -64,7 +64,7 @@ pub fn draw_held<P: Filter, G: Gate>(
     counts: &mut [u32],
 ) -> (Pass, u64)
     requires of { IsPassOf words.now pass }
-    requires fits { Fits shot.now.geometry.now words.now.sizes }
+    requires fits { FitsShape shot.now.geometry.now words.now.sizes }
     requires rooted { pass.view.rooted ≡ true }
     requires own { pass.view.sampler ≡ sampler }
     requires depth { IsDepth shot.now.depth }

@@ -2,10 +2,10 @@
 
 ghost use Rattle.std.specs.Prelude.{◌≡◌, ◌<◌, true};
 ghost use Rattle.vt_pages.specs.Pages.{pages_of};
-ghost use Rattle.vt_pictures.specs.DrawLookups.{IsFinest};
+ghost use Rattle.vt_pictures.specs.DrawLookups.{IsFinestFound};
 ghost use Rattle.vt_grace.specs.Places.{texel_word};
 ghost use Rattle.vt_grace.specs.Tokens.{IsHeldOf};
-ghost use Rattle.vt_lookup.specs.Notes.{Fits, IsNotedIn, HasNotedMore, LookupValue, LookupBase, base_of};
+ghost use Rattle.vt_lookup.specs.Notes.{FitsShape, IsNotedIn, HasNotedMore, LookupValue, LookupBase, base_of};
 
 use std::marker::Model;
 use vt_grace::{Held, Words};
@@ -27,13 +27,13 @@ impl<'a> Model for HeldLookup<'a> {
     ghost use Rattle.std.specs.Prelude.{◌≡◌, true};
     ghost use Rattle.vt_grace.specs.Places.{texel_word};
     ghost use Rattle.vt_grace.specs.Tokens.{IsHeldOf};
-    ghost use Rattle.vt_lookup.specs.Notes.{Fits, LookupValue};
+    ghost use Rattle.vt_lookup.specs.Notes.{FitsShape, LookupValue};
 
     ghost Value = { LookupValue };
 
     ghost view = { λ l. record { shape = l.geometry.now; words = l.words.now; held = l.held } };
 
-    ghost invariant = { λ l. IsHeldOf l.words.now l.held × Fits l.geometry.now l.words.now.sizes × (l.held.view.rooted ≡ true)
+    ghost invariant = { λ l. IsHeldOf l.words.now l.held × FitsShape l.geometry.now l.words.now.sizes × (l.held.view.rooted ≡ true)
         × (l.start ≡ texel_word l.words.now.sizes l.slot 0) };
 }
 
@@ -41,7 +41,7 @@ impl<'a> HeldLookup<'a> {
     /// The look-up over a hold of a pass that was given at a version that maps the root.
     pub fn new(held: Held, words: &'a Words, geometry: &'a Geometry) -> HeldLookup<'a>
         requires of { IsHeldOf words.now held }
-        requires fits { Fits geometry.now words.now.sizes }
+        requires fits { FitsShape geometry.now words.now.sizes }
         requires rooted { held.view.rooted ≡ true }
         ensures { result ≡ record { shape = geometry.now; words = words.now; held = held } }
     {
@@ -85,13 +85,13 @@ impl<'a> HeldLookup<'a> {
 #[inline(never)]
 fn finest_mapped(held: &mut Held, words: &Words, geometry: &Geometry, page: u32) -> Found
     requires of { IsHeldOf words.now held.old }
-    requires fits { Fits geometry.now words.now.sizes }
+    requires fits { FitsShape geometry.now words.now.sizes }
     requires rooted { held.old.view.rooted ≡ true }
     requires page { page < pages_of geometry.now }
     ensures of { IsHeldOf words.now held.new }
     ensures version { held.new.version ≡ held.old.version }
     ensures more { HasNotedMore held.old.view held.new.view }
-    ensures finest { IsFinest geometry.now held.new.version (IsNotedIn held.new.view) page result }
+    ensures finest { IsFinestFound geometry.now held.new.version (IsNotedIn held.new.view) page result }
 {
     let name = geometry.page_at(page);
     let mut col = name.col;

@@ -16,7 +16,7 @@ use Rattle.vt_tiles.specs.Format.{tile_start, tile_length}
 use Rattle.vt_evict.specs.PlanTypes.batches.Planned.{Planned}
 use Rattle.vt_evict.specs.Batches.{read_entries}
 use Rattle.vt_machine.specs.Outcomes.{lost_count}
-use Rattle.vt_machine.specs.Requests.{FileState, AllTell, is_tile_at, times_planned, lost_entries, counts_of, AreReadFor}
+use Rattle.vt_machine.specs.Requests.{FileState, AllKnown, is_tile_at, times_planned, lost_entries, counts_of, AreReadFor}
 
 -- a place of a list that a map does not see change
 map-kept : {X Y : Type 0} (f : X → Y) (xs : List X) (k : ℕ) (y d : X) → f y ≡ f (get_or xs k d) → map f (slice_set xs k y) ≡ map f xs
@@ -24,9 +24,9 @@ map-kept f [] k y d e = refl
 map-kept f (x ∷ xs) zero y d e = λ i. e i ∷ map f xs
 map-kept f (x ∷ xs) (suc k) y d e = ap (λ l. f x ∷ l) (map-kept f xs k y d e)
 
-tells_too : (o : Option (List Place)) (g : List Place → List Place) → is_some (option_map g o) ≡ is_some o
-tells_too None g = refl
-tells_too (Some places) g = refl
+known_stays : (o : Option (List Place)) (g : List Place → List Place) → is_some (option_map g o) ≡ is_some o
+known_stays None g = refl
+known_stays (Some places) g = refl
 
 -- the entries of which each was chosen by a list of the same length, with one more
 chosen_more : (batch : List Planned) (chosen : List Bool) (e : Planned) (c : Bool) → length chosen ≡ length batch
@@ -37,9 +37,9 @@ chosen_more (x ∷ batch) [] e c same = absurd (omega arith)
 chosen_more (x ∷ batch) (true ∷ chosen) e c same = chosen_more batch chosen e c (omega arith)
 chosen_more (x ∷ batch) (false ∷ chosen) e c same = ap (λ l. x ∷ l) (chosen_more batch chosen e c (omega arith))
 
-told_at : (before files : List FileState) → AllTell before → map (λ f. is_some f.asked) files ≡ map (λ f. is_some f.asked) before
+known_at : (before files : List FileState) → AllKnown before → map (λ f. is_some f.asked) files ≡ map (λ f. is_some f.asked) before
     → (k : ℕ) (d : FileState) → k < length files → IsSome (get_or files k d).asked
-told_at before files all same k d inside =
+known_at before files all same k d inside =
     let long : length files ≡ length before = sym (length-map files (λ (f : FileState). is_some f.asked)) ∙ ap length same
     ∙ length-map before (λ (f : FileState). is_some f.asked) in
     sym (get_or-map (λ (f : FileState). is_some f.asked) files k d true inside) ∙ ap (λ l. get_or l k true) same
@@ -132,15 +132,15 @@ pub read_more : (s : Shape) (d n : ℕ) (batch : List Planned) (losses : List Bo
     → AreReadFor s d (take (n + 1) batch) (losses ++ lost ∷ []) before (slice_set files k now)
 read_more s d n batch losses lost before files k now e read inside below at same name asked grows rose =
     let more : take (n + 1) batch ≡ take n batch ++ e ∷ [] = take_more batch n e below ∙ ap (λ (x : Planned). take n batch ++ x ∷ []) at in
-    let tells = map-kept (λ (f : FileState). is_some f.asked) files k now now (ap is_some asked
-    ∙ tells_too (get_or files k now).asked (noted (tile_start s d e.page) (tile_length s d) lost)) in
+    let known_too = map-kept (λ (f : FileState). is_some f.asked) files k now now (ap is_some asked
+    ∙ known_stays (get_or files k now).asked (noted (tile_start s d e.page) (tile_length s d) lost)) in
     let long : length losses ≡ length (take n batch) = same ∙ sym (length-take-le n batch (omega (arith, below))) in
     subst (λ (b : List Planned). AreReadFor s d b (losses ++ lost ∷ []) before (slice_set files k now)) (sym more) (record {
       same = record {
         names = map-kept (λ (f : FileState). f.name) files k now now name ∙ read.same.names;
-        tell = tells ∙ read.same.tell;
+        all_known = known_too ∙ read.same.all_known;
       };
-      once = λ all. let some : IsSome (get_or files k now).asked = told_at before files all read.same.tell k now inside in
+      once = λ all. let some : IsSome (get_or files k now).asked = known_at before files all read.same.all_known k now inside in
           let once = read.once all in
           record {
             asked = λ at len. sum_more (λ (f : FileState). times_asked at len (unwrap_or f.asked [])) files k

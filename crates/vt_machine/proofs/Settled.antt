@@ -47,7 +47,7 @@ module _ (draws : Drawing) (drawn : PathView → ℕ → ℕ → ℕ → List �
       → before.setup.bytes ≡ Some b → IsStore b job.scene.shape job.scene.depth
       → MapsNeeded job.scene.shape (newest before.journal) (draws.needs job.scene job.picture)
       → IsPictureOf before.setup.depth before.setup.width before.setup.height (λ x y. draws.whole job.scene b job.picture x y) (concat after.rows)
-  settled job report before after b ran none limits job_for told store needed =
+  settled job report before after b ran none limits job_for known store needed =
       let same : after.journal ≡ before.journal = ran.journal ∙ ap (λ (events : List Event). before.journal ++ changes_of events)
       (no_events job.batch report.losses.elements report.events.elements none ran.outcome) ∙ append-nil before.journal in
       let setup = ran.setup in
@@ -62,7 +62,7 @@ module _ (draws : Drawing) (drawn : PathView → ℕ → ℕ → ℕ → List �
             let row = ran.rows.of_picture.each y l.0 l.1 in
             let v : l.0.version ≡ length before.journal =
             (let low = row.from in let high = row.to in let e : length after.journal ≡ length before.journal = ap length same in omega (arith, low, high, e)) in
-            let replayed = if_some after.setup.bytes b _ (ap (λ (s : Setup). s.bytes) setup ∙ told) ran.picture.replayed y l.0 l.1 in
+            let replayed = if_some after.setup.bytes b _ (ap (λ (s : Setup). s.bytes) setup ∙ known) ran.picture.replayed y l.0 l.1 in
             let pixels = subst (λ (s : Setup). HasPixels s.depth s.width (λ x. draws.shows job.scene b (at after.journal l.0.version) job.picture x y)
             (slice_index_or after.rows y [])) setup replayed in
             let table : at after.journal l.0.version ≡ newest before.journal = ap (λ (js : List Change). at js l.0.version) same ∙ ap (at before.journal) v in

@@ -10,7 +10,7 @@ use Rattle.vt_machine.specs.declared.crew.Crew.{Crew}
 use Rattle.vt_machine.specs.Requests.{FileState}
 
 -- what a machine was made for: how the texture is cut into pages, how many bytes its samples have, the sides of the pictures, the number of
--- frames and the crew; and the bytes of the store, where they are told
+-- frames and the crew; and the bytes of the store, where they are known
 pub record Setup : Type 0 where
   pub shape : Shape
   pub depth : ℕ
@@ -42,9 +42,9 @@ abbrev pub files_of : {F : Type 0} → FileMeanings F → List (StoreView F) →
 files_of g stores = map (λ store. file_state g store.file) stores
 
 -- the bytes that the first of some stores tells
-abbrev pub told_by : {F : Type 0} → FileMeanings F → List (StoreView F) → Option (List ℕ)
-told_by g [] = None
-told_by g (store ∷ stores) = g.bytes store.file
+abbrev pub known_bytes : {F : Type 0} → FileMeanings F → List (StoreView F) → Option (List ℕ)
+known_bytes g [] = None
+known_bytes g (store ∷ stores) = g.bytes store.file
 
 -- a machine is between its passes, or one is prepared, for whatever batch
 abbrev pub IsIdleOrReady : Type 0 → (List Planned → Type 0) → Type 0
@@ -55,4 +55,4 @@ pub record AreStoresFor {F : Type 0} (g : FileMeanings F) (s : Shape) (d loaders
   pub count : length stores ≡ loaders
   pub shapes : All (λ store. store.shape ≡ s) stores
   pub depths : All (λ store. store.depth ≡ d) stores
-  pub told : All (λ store. g.bytes store.file ≡ told_by g stores) stores
+  pub known : All (λ store. g.bytes store.file ≡ known_bytes g stores) stores

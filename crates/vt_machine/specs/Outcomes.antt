@@ -57,9 +57,9 @@ IsOrder n order = IsPermutation (range_with_len 0 n) order
 abbrev pub lost_count : List Bool → ℕ
 lost_count losses = count_by (λ lost. lost) losses
 
--- the events of a pass are the groups of its batch in some order, where it is told of each entry whether it was lost
+-- the events of a pass are the groups of its batch in some order, where it is known of each entry whether it was lost
 pub record IsOutcome (batch : List Planned) (losses : List Bool) (events : List Event) : Type 0 where
-  pub told : length losses ≡ length batch
+  pub reported : length losses ≡ length batch
   pub order : List ℕ
   pub each_once : IsOrder (length batch) order
   pub groups : events ≡ pass_events batch losses order

@@ -31,7 +31,7 @@ pub record Begins (given : Setup) (files : List FileState) (s : MachineState) : 
   pub files_are : s.files ≡ files
   pub journal : s.journal ≡ []
 
--- a page may be placed in a frame with a tile: both are free, and the tile is the store's, where that is told
+-- a page may be placed in a frame with a tile: both are free, and the tile is the store's, where that is known
 pub record MayPlace (s : MachineState) (page frame : ℕ) (tile : List ℕ) : Type 0 where
   pub page_inside : page < pages_of s.setup.shape
   pub frame_inside : frame < s.setup.frames
@@ -97,7 +97,7 @@ pub record Broke (job : Job) (before after : MachineState) : Type 0 where
   pub read : ArePartlyReadFor before.setup.shape before.setup.depth job.batch before.files after.files
 
 -- how the run of a pass ends: it was run, and the machine can go on; or memory was refused, and it can only be ended
-pub record Ends (draws : Drawing) (drawn : PathView → ℕ → ℕ → ℕ → List ℕ → Type 0) (idle : Type 0) (job : Job)
+pub record EndsPassRun (draws : Drawing) (drawn : PathView → ℕ → ℕ → ℕ → List ℕ → Type 0) (idle : Type 0) (job : Job)
     (result : Result PassReport NoMemory) (before after : MachineState) : Type 0 where
   pub ran : IfOk result (λ report. Ran draws drawn job report before after)
   pub goes_on : OnOk result idle

@@ -9,15 +9,15 @@ use Rattle.vt_evict.specs.Batches.{read_entries}
 use Rattle.vt_tiles.specs.Format.{tile_start, tile_length}
 use Rattle.vt_machine.specs.Outcomes.{lost_count}
 
--- a loader's file: its name, the places it was asked, where they are told, and its count of faults
+-- a loader's file: its name, the places it was asked, where they are known, and its count of faults
 pub record FileState : Type 0 where
   pub name : List ℕ
   pub asked : Option (List Place)
   pub faults : ℕ
 
 -- each file tells the places it was asked
-abbrev pub AllTell : List FileState → Type 0
-AllTell files = All (λ f. IsSome f.asked) files
+abbrev pub AllKnown : List FileState → Type 0
+AllKnown files = All (λ f. IsSome f.asked) files
 
 -- how often all the files together were asked a place
 abbrev pub times_asked_by : List FileState → ℕ → ℕ → ℕ
@@ -56,19 +56,19 @@ counts_of files = map (λ f. f.faults) files
 -- they are the same files, and tell their places where they did
 pub record AreSameFiles (before after : List FileState) : Type 0 where
   pub names : map (λ f. f.name) after ≡ map (λ f. f.name) before
-  pub tell : map (λ f. is_some f.asked) after ≡ map (λ f. is_some f.asked) before
+  pub all_known : map (λ f. is_some f.asked) after ≡ map (λ f. is_some f.asked) before
 
 -- the files were read for a batch: where they tell their places, each request was made once, and their counts rose together by the lost entries
 pub record AreReadFor (s : Shape) (d : ℕ) (batch : List Planned) (losses : List Bool) (before after : List FileState) : Type 0 where
   pub same : AreSameFiles before after
-  pub once : AllTell before → AreAskedOnce s d batch losses before after
+  pub once : AllKnown before → AreAskedOnce s d batch losses before after
   pub faults : RoseTogetherBy (lost_count losses) (counts_of before) (counts_of after)
 
 -- the files were read for a part of a batch: where they tell their places, each request was made at most once, and a read failed at most as
 -- often as it is that of some entries, by which their counts rose together
 pub record ArePartlyReadFor (s : Shape) (d : ℕ) (batch : List Planned) (before after : List FileState) : Type 0 where
   pub same : AreSameFiles before after
-  pub at_most_once : AllTell before → AreAskedAtMostOnce s d batch before after
+  pub at_most_once : AllKnown before → AreAskedAtMostOnce s d batch before after
   pub lost : List Planned
-  pub failed : AllTell before → (at len : ℕ) → times_failed_by after at len ≤ times_failed_by before at len + times_planned s d lost at len
+  pub failed : AllKnown before → (at len : ℕ) → times_failed_by after at len ≤ times_failed_by before at len + times_planned s d lost at len
   pub faults : RoseTogetherBy (length lost) (counts_of before) (counts_of after)

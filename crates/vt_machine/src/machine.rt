@@ -14,8 +14,8 @@ ghost use Rattle.vt_pictures.specs.Scenes.{Scene};
 ghost use Rattle.vt_machine.specs.Drawings.{Drawing};
 ghost use Rattle.vt_machine.specs.Jobs.{Job, job_of};
 ghost use Rattle.vt_machine.specs.Crews.{IsCrew, AreFrames};
-ghost use Rattle.vt_machine.specs.Machines.{MachineState, setup_of, files_of, told_by, AreStoresFor, IsIdleOrReady};
-ghost use Rattle.vt_machine.specs.Passes.{Begins, MayPlace, with_placed, MayPrepare, IsUntouched, IsSpent, MapsRoot, IsJobFor, Ends, MapsNeeded};
+ghost use Rattle.vt_machine.specs.Machines.{MachineState, setup_of, files_of, known_bytes, AreStoresFor, IsIdleOrReady};
+ghost use Rattle.vt_machine.specs.Passes.{Begins, MayPlace, with_placed, MayPrepare, IsUntouched, IsSpent, MapsRoot, IsJobFor, EndsPassRun, MapsNeeded};
 ghost use Rattle.vt_machine.specs.All.{AllReady, AllDid};
 ghost use Rattle.vt_pictures.specs.JournalTypes.changes.RowLine.{RowLine};
 
@@ -118,7 +118,7 @@ pub trait PassMachine: Sized {
         requires depth { IsDepth depth }
         requires stores { AreStoresFor Self.File.File geometry.now depth crew.now.loaders stores.old.elements }
         ensures begins { IfOk result (λ m. Begins (setup_of geometry.now depth path.now frames crew.now
-            (told_by Self.File.File stores.old.elements)) (files_of Self.File.File stores.old.elements) (state m)) }
+            (known_bytes Self.File.File stores.old.elements)) (files_of Self.File.File stores.old.elements) (state m)) }
         ensures idle { IfOk result is_idle }
         ensures taken { OnOk result (stores.new.elements ≡ []) }
         ensures refused { OnErr result (stores.new.elements ≡ stores.old.elements) };
@@ -143,7 +143,7 @@ pub trait PassMachine: Sized {
         requires depth { IsDepth depth }
         requires stores { AreStoresFor Self.File.File geometry.now depth crew.now.loaders stores.elements }
         ensures begins { IfOk result (λ m. Begins (setup_of geometry.now depth path.now frames crew.now
-            (told_by Self.File.File stores.elements)) (files_of Self.File.File stores.elements) (state m)) }
+            (known_bytes Self.File.File stores.elements)) (files_of Self.File.File stores.elements) (state m)) }
         ensures idle { IfOk result is_idle }
         ensures refused { IfErr result (λ e. files_of Self.File.File e.0.elements
             ≡ files_of Self.File.File stores.elements) }
@@ -159,7 +159,7 @@ pub trait PassMachine: Sized {
     }
 
     /// Maps a page to a frame that it fills with the page's tile, while no pass is prepared. Both are free, and the
-    /// tile is the store's, where that is told. After a refusal nothing changed.
+    /// tile is the store's, where that is known. After a refusal nothing changed.
     fn place<Rt: Threads + Wait + Sync>(
         &mut self,
         rt: &Rt,
@@ -232,7 +232,7 @@ pub trait PassMachine: Sized {
         requires ready { is_ready self.old batch.now.elements }
         requires root { MapsRoot (state self.old) }
         requires job { IsJobFor (state self.old).setup (job_of shot.now batch.now.elements) }
-        ensures ends { Ends drawing (drawn self.new) (is_idle self.new)
+        ensures ends { EndsPassRun drawing (drawn self.new) (is_idle self.new)
             (job_of shot.now batch.now.elements) result (state self.old) (state self.new) }
         ensures refused { OnErr result refuses }
         ensures held { IfOk result (λ report. held self.old self.new (job_of shot.now batch.now.elements)
@@ -295,7 +295,7 @@ pub trait PassMachine: Sized {
         → AllDid (Self.Loader.did (lent n) job) a c → AllDid (Self.Sampler.did (lent n) job) e f
         → Self.Streamer.did (lent n) job b d
         → reattached n job c f d p r
-        → Ends drawing (drawn p) (is_idle p) job r (state m) (state p)
+        → EndsPassRun drawing (drawn p) (is_idle p) job r (state m) (state p)
         × IfOk r (λ report. held m p job report.rows.elements) };
 
     /// Where the pass was refused memory, that is so which may refuse it.

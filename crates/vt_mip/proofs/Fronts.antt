@@ -8,7 +8,7 @@ use Rattle.vt_ppm.specs.Limits.{most_levels}
 use Rattle.vt_ppm.specs.Sides.{side, level_count}
 use Rattle.vt_ppm.proofs.Levels.{level_count_least}
 use Rattle.vt_ppm.specs.Image.{ImageView, IsLawfulImage}
-use Rattle.vt_mip.specs.Levels.{IsLevel, GainsHalf, IsChainFront, IsLastFitting, IsWholeChain, level_at, blank}
+use Rattle.vt_mip.specs.Levels.{IsLevel, GainsHalf, IsChainFront, IsLastFitting, IsWholeChain, level_at, no_image}
 use Rattle.vt_mip.specs.Chains.{ChainView, chain_levels, chain_width, chain_height, chain_texel, IsTexelRow, IsTexelRaster}
 use Rattle.vt_mip.proofs.Rasters.{texel_row_room}
 use Rattle.vt_mip.proofs.Words.{first_level, next_level, texel_row, texel_raster}
@@ -24,11 +24,11 @@ front_first base t lawful = record {
 
 -- the level that is added
 added_level : (levels : List ImageView) (next : ImageView) → level_at (levels ++ next ∷ []) (length levels) ≡ next
-added_level levels next = get_or_push levels next blank (length levels) refl
+added_level levels next = get_or_push levels next no_image (length levels) refl
 
 -- a level that was there
 kept_level : (levels : List ImageView) (next : ImageView) (k : ℕ) → k < length levels → level_at (levels ++ next ∷ []) k ≡ level_at levels k
-kept_level levels next k below = get_or_append_left levels (next ∷ []) blank k below
+kept_level levels next k below = get_or_append_left levels (next ∷ []) no_image k below
 
 grown : (levels : List ImageView) (next : ImageView) → length (levels ++ next ∷ []) ≡ length levels + 1
 grown levels next = omega (arith, length-append levels (next ∷ []))
@@ -150,7 +150,7 @@ module _ (levels : List ImageView) (t k : ℕ) (p : ImageView) (v : ChainView) (
   low = omega (arith, whole.count, (rw (← view) at below))
 
   level : IsLevel (level_at levels 0) k p
-  level = rw (get_or_read levels k p low read blank) (whole.front.each k low)
+  level = rw (get_or_read levels k p low read no_image) (whole.front.each k low)
 
   inside : (y : ℕ) → y < chain_height v k → y < p.height
   inside y high = rw (level.rows) (rw (← view) at high)

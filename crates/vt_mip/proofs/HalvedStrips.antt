@@ -8,18 +8,18 @@ use Rattle.vt_ppm.specs.Files.{IsPiece}
 use Rattle.vt_ppm.specs.declared.header.Header.{Header}
 use Rattle.vt_ppm.specs.Format.{depth_of}
 use Rattle.vt_ppm.specs.Image.{ImageView}
-use Rattle.vt_ppm.specs.Strips.{IsTextureIfTold, RowsAsked, row_length, texture_of}
+use Rattle.vt_ppm.specs.Strips.{IsTextureIfKnown, RowsAsked, row_length, texture_of}
 use Rattle.vt_ppm.specs.StripPlaces.{StripsTried, strip_rows, strips_of}
 use Rattle.vt_ppm.proofs.StripPlaces.{more_strips, no_strips, strip_tried}
 use Rattle.vt_mip.specs.TakenRows.{HalvingView, HalvesFront}
 use Rattle.vt_mip.specs.HalvedStrips.{ReaderState, KeepsReader, IsHalvedTo, HoldsStrip, IsAtStrip, strip_height, strip_length}
 
-if_told : (told : Option (List ℕ)) (P : List ℕ → Type 0) (b : List ℕ) → told ≡ Some b → IfSome told P → P b
-if_told told P b e all = subst (λ (t : Option (List ℕ)). IfSome t P) e all
+if_known : (known : Option (List ℕ)) (P : List ℕ → Type 0) (b : List ℕ) → known ≡ Some b → IfSome known P → P b
+if_known known P b e all = subst (λ (t : Option (List ℕ)). IfSome t P) e all
 
 pub keeps_on : (a b c : ReaderState) → KeepsReader a b → KeepsReader b c → KeepsReader a c
 keeps_on a b c p q = record {
-  told = q.told ∙ p.told;
+  known = q.known ∙ p.known;
   called = q.called ∙ p.called;
   header = q.header ∙ p.header;
   checked = q.checked ∙ p.checked;
@@ -72,14 +72,14 @@ module _ (a b : ReaderState) where
   pub at_first : (half : HalvingView) (room : List ℕ) → strips_of a.header strip_height ≤ a.spare → a.spare ≤ b.spare + 1 → KeepsReader a b
       → RowsAsked a.header (0 * strip_height) (strip_rows a.header strip_height 0) false a.places b.places → IsHalvedTo a.header 0 half
       → ((p : ImageView) → p.depth ≡ half.depth → p.width ≡ half.width → p.height ≡ half.height → HalvesFront p half)
-      → IfSome a.told (λ bytes. HoldsStrip a.header 0 bytes room) → IsAtStrip 0 a b half room
+      → IfSome a.known (λ bytes. HoldsStrip a.header 0 bytes room) → IsAtStrip 0 a b half room
   at_first half room enough spare kept asked to begun holds = record {
     kept = kept;
     read = more_strips a.header a.header strip_height 0 (0 * strip_height) (strip_rows a.header strip_height 0) a.places a.places b.places
         (no_strips a.header strip_height a.places a.places refl) refl refl refl asked;
     spare = omega (arith, enough, spare);
     to = to;
-    holds = λ bytes is. if_told a.told (λ bytes. HoldsStrip a.header 0 bytes room) bytes is holds;
+    holds = λ bytes is. if_known a.known (λ bytes. HoldsStrip a.header 0 bytes room) bytes is holds;
     halves = λ bytes is. begun (texture_of a.header bytes) (sym to.depth) (sym to.width) (sym to.height);
   }
 
@@ -93,23 +93,23 @@ module _ (a b : ReaderState) where
         few at.read at.kept.header refl (ap (λ (z : Header). strip_rows z strip_height (i + 1)) at.kept.header) (inr asked)
 
     -- the strip is halved
-    pub halves_strip : (half' : HalvingView) → i < strips_of a.header strip_height → IsTextureIfTold a.told a.header
+    pub halves_strip : (half' : HalvingView) → i < strips_of a.header strip_height → IsTextureIfKnown a.known a.header
         → ((p : ImageView) → HalvesFront p half → IsPiece p.samples (i * strip_height * row_length b.header) (take (strip_length b.header i) front)
         → HalvesFront p half')
-        → (bytes : List ℕ) → a.told ≡ Some bytes → HalvesFront (texture_of a.header bytes) half'
+        → (bytes : List ℕ) → a.known ≡ Some bytes → HalvesFront (texture_of a.header bytes) half'
     halves_strip half' inside texture halve bytes is =
         halve (texture_of a.header bytes) (at.halves bytes is)
         (subst (λ (z : Header). IsPiece (texture_of a.header bytes).samples (i * strip_height * row_length z) (take (strip_length z i) front)) (sym at.kept.header)
         (strip_is_piece a.header i bytes front inside (texture.each bytes is).image.full (at.holds bytes is)))
 
     -- one strip more
-    pub at_next : (c : ReaderState) (half' : HalvingView) (back : List ℕ) → i + 1 < strips_of a.header strip_height → IsTextureIfTold a.told a.header
+    pub at_next : (c : ReaderState) (half' : HalvingView) (back : List ℕ) → i + 1 < strips_of a.header strip_height → IsTextureIfKnown a.known a.header
         → KeepsReader b c → b.spare ≤ c.spare + 1
         → RowsAsked b.header ((i + 1) * strip_height) (strip_rows b.header strip_height (i + 1)) false b.places c.places
         → IsHalvedTo b.header (i + 1) half'
         → ((p : ImageView) → HalvesFront p half → IsPiece p.samples (i * strip_height * row_length b.header) (take (strip_length b.header i) front)
         → HalvesFront p half')
-        → IfSome b.told (λ bytes. HoldsStrip b.header (i + 1) bytes back) → IsAtStrip (i + 1) a c half' back
+        → IfSome b.known (λ bytes. HoldsStrip b.header (i + 1) bytes back) → IsAtStrip (i + 1) a c half' back
     at_next c half' back few texture kept spare asked to halve holds = record {
       kept = keeps_on a b c at.kept kept;
       read = more_strips a.header b.header strip_height (i + 1) ((i + 1) * strip_height) (strip_rows b.header strip_height (i + 1)) a.places b.places
@@ -117,7 +117,7 @@ module _ (a b : ReaderState) where
       spare = omega (arith, at.spare, spare);
       to = subst (λ (z : Header). IsHalvedTo z (i + 1) half') at.kept.header to;
       holds = λ bytes is. subst (λ (z : Header). HoldsStrip z (i + 1) bytes back) at.kept.header
-          (if_told b.told (λ bytes. HoldsStrip b.header (i + 1) bytes back) bytes (at.kept.told ∙ is) holds);
+          (if_known b.known (λ bytes. HoldsStrip b.header (i + 1) bytes back) bytes (at.kept.known ∙ is) holds);
       halves = halves_strip half' (omega arith) texture halve;
     }
 

@@ -6,7 +6,7 @@ use Rattle.vt_ppm.specs.Sides.{side}
 use Rattle.vt_ppm.specs.OutsideTypes.place.Place.{Place}
 use Rattle.vt_ppm.specs.declared.header.Header.{Header}
 use Rattle.vt_ppm.specs.Strips.{RowsAsked, row_length, row_start}
-use Rattle.vt_mip.specs.StripChains.{IsUpper, RowsRead, RowsFailed, row_place, row_places, first_under, rows_under}
+use Rattle.vt_mip.specs.StripChains.{IsUpper, RowsRead, RowsFailed, texture_row_place, row_places, first_under, rows_under}
 
 -- a row is one of a level exactly where a row of the texture lies under it
 pub row_under : (h k y : ℕ) → y < side h k → y * 2 ^ k < h
@@ -64,7 +64,7 @@ places_add h a (suc n) m =
     let e : suc n + m ≡ suc (n + m) = omega arith in
     let z : a + 1 + n ≡ a + suc n = omega arith in
     ap (row_places h a) e
-    ∙ ap (λ l. row_place h false a ∷ l) (places_add h (a + 1) n m ∙ ap (λ (i : ℕ). row_places h (a + 1) n ++ row_places h i m) z)
+    ∙ ap (λ l. texture_row_place h false a ∷ l) (places_add h (a + 1) n m ∙ ap (λ (i : ℕ). row_places h (a + 1) n ++ row_places h i m) z)
 
 map_twice : {A : Type 0} (f g k : A → A) (o : Option A) → ((x : A) → f (g x) ≡ k x) → option_map f (option_map g o) ≡ option_map k o
 map_twice f g k None same = refl
@@ -82,19 +82,19 @@ read_on h first n m a0 a1 a2 before after =
 pub fail_on : (h : Header) (first n m : ℕ) (a0 a1 a2 : Option (List Place)) → RowsRead h first n a0 a1 → RowsFailed h (first + n) m a1 a2
     → RowsFailed h first (n + m) a0 a2
 fail_on h first n m a0 a1 a2 before after =
-    let more : List Place = row_places h (first + n) after.count ++ row_place h true (first + n + after.count) ∷ [] in
+    let more : List Place = row_places h (first + n) after.count ++ texture_row_place h true (first + n + after.count) ∷ [] in
     let z : first + n + after.count ≡ first + (n + after.count) = omega arith in
     record {
       count = n + after.count;
       few = omega (arith, after.few);
       asked = after.asked ∙ ap (option_map (λ places. places ++ more)) before
           ∙ map_twice (λ places. places ++ more) (λ places. places ++ row_places h first n)
-          (λ places. places ++ (row_places h first (n + after.count) ++ row_place h true (first + (n + after.count)) ∷ [])) a0
+          (λ places. places ++ (row_places h first (n + after.count) ++ texture_row_place h true (first + (n + after.count)) ∷ [])) a0
           (λ xs. append_assoc xs (row_places h first n) more
           ∙ ap (λ l. xs ++ l) (sym (append_assoc (row_places h first n) (row_places h (first + n) after.count)
-          (row_place h true (first + n + after.count) ∷ []))
-          ∙ ap (λ l. l ++ row_place h true (first + n + after.count) ∷ []) (sym (places_add h first n after.count))
-          ∙ ap (λ (i : ℕ). row_places h first (n + after.count) ++ row_place h true i ∷ []) z));
+          (texture_row_place h true (first + n + after.count) ∷ []))
+          ∙ ap (λ l. l ++ texture_row_place h true (first + n + after.count) ∷ []) (sym (places_add h first n after.count))
+          ∙ ap (λ (i : ℕ). row_places h first (n + after.count) ++ texture_row_place h true i ∷ []) z));
     }
 
 pub fail_sooner : (h : Header) (first n m : ℕ) (a0 a1 : Option (List Place)) → n ≤ m → RowsFailed h first n a0 a1 → RowsFailed h first m a0 a1

@@ -8,7 +8,7 @@ use Rattle.vt_ppm.proofs.TexelWords.{sample_small, texel_words}
 use Rattle.vt_ppm.specs.declared.header.Header.{Header}
 use Rattle.vt_ppm.specs.Format.{depth_of}
 use Rattle.vt_ppm.specs.Image.{texel_of}
-use Rattle.vt_ppm.specs.Strips.{texture_of, rows_of}
+use Rattle.vt_ppm.specs.Strips.{texture_of, sample_rows}
 use Rattle.vt_ppm.proofs.SampleValues.{depth_is}
 use Rattle.vt_box_filter.specs.Boxes.{clamped}
 use Rattle.vt_mip.specs.Chains.{halved, halved_word, IsTexelRow}
@@ -82,12 +82,12 @@ row_word d w y x samples p =
           (omega arith) (omega arith) (omega arith) (omega arith)
 
 -- a row of the texture has its words
-pub first_words : (told : Option (List ℕ)) (h : Header) (level y : ℕ) (out : List ℕ) → level ≡ 0
-    → IfSome told (λ b. out ≡ rows_of h b y 1)
-    → (b : List ℕ) → told ≡ Some b → HasWords (depth_of h.maximum) (λ x. texture_texel h b level x y) (side h.width level) out
-first_words told h level y out none rows b e =
+pub first_words : (known : Option (List ℕ)) (h : Header) (level y : ℕ) (out : List ℕ) → level ≡ 0
+    → IfSome known (λ b. out ≡ sample_rows h b y 1)
+    → (b : List ℕ) → known ≡ Some b → HasWords (depth_of h.maximum) (λ x. texture_texel h b level x y) (side h.width level) out
+first_words known h level y out none rows b e =
     let d : ℕ = depth_of h.maximum in
-    let row : out ≡ rows_of h b y 1 = subst (λ (t : Option (List ℕ)). IfSome t (λ b. out ≡ rows_of h b y 1)) e rows in
+    let row : out ≡ sample_rows h b y 1 = subst (λ (t : Option (List ℕ)). IfSome t (λ b. out ≡ sample_rows h b y 1)) e rows in
     rw none (record {
       each = λ x inside. ap (λ l. word_at d l x) row ∙ row_word d h.width y x (texture_of h b).samples inside
           ∙ sym (chain-zero d (texel_of (texture_of h b)) h.width h.height x y);
@@ -114,14 +114,14 @@ place_same h b k row i j e words =
     subst (λ (n : ℕ). HasWords (depth_of h.maximum) (λ x. texture_texel h b k x n) (side h.width k) row) e words
 
 -- the same for a level that is not 0, by two rows of the level below
-pub two_rows : (told told' : Option (List ℕ)) (h h' : Header) (d w k level y : ℕ) (top bottom out : List ℕ) → told' ≡ told → h' ≡ h
+pub two_rows : (known known' : Option (List ℕ)) (h h' : Header) (d w k level y : ℕ) (top bottom out : List ℕ) → known' ≡ known → h' ≡ h
     → level ≡ suc k → d ≡ depth_of h.maximum → w ≡ side h.width k → IsDepth d → 1 ≤ h.width → 2 * y + 1 < side h.height k
     → AreBytes top → AreBytes bottom
-    → ((b : List ℕ) → told ≡ Some b → HasWords (depth_of h.maximum) (λ x. texture_texel h b k x (2 * y)) (side h.width k) top)
-    → ((b : List ℕ) → told' ≡ Some b → HasWords (depth_of h'.maximum) (λ x. texture_texel h' b k x (2 * y + 1)) (side h'.width k) bottom)
+    → ((b : List ℕ) → known ≡ Some b → HasWords (depth_of h.maximum) (λ x. texture_texel h b k x (2 * y)) (side h.width k) top)
+    → ((b : List ℕ) → known' ≡ Some b → HasWords (depth_of h'.maximum) (λ x. texture_texel h' b k x (2 * y + 1)) (side h'.width k) bottom)
     → IsHalvedRow d top bottom w ((w + 1) / 2) out
-    → (b : List ℕ) → told ≡ Some b → HasWords (depth_of h.maximum) (λ x. texture_texel h b level x y) (side h.width level) out
-two_rows told told' h h' d w k level y top bottom out et eh el ed ew depth wide inside top_bytes bottom_bytes above below half b e =
+    → (b : List ℕ) → known ≡ Some b → HasWords (depth_of h.maximum) (λ x. texture_texel h b level x y) (side h.width level) out
+two_rows known known' h h' d w k level y top bottom out et eh el ed ew depth wide inside top_bytes bottom_bytes above below half b e =
     let lower = subst (λ (g : Header). HasWords (depth_of g.maximum) (λ x. texture_texel g b k x (2 * y + 1)) (side g.width k) bottom) eh
     (below b (et ∙ e)) in
     let Half : ℕ → ℕ → Type 0 = λ m n. IsHalvedRow m top bottom n ((n + 1) / 2) out in
@@ -131,13 +131,13 @@ two_rows told told' h h' d w k level y top bottom out et eh el ed ew depth wide 
     (subst (λ (n : ℕ). Half (depth_of h.maximum) n) ew (subst (λ (m : ℕ). Half m w) ed half)))
 
 -- and by its last row
-pub one_row : (told : Option (List ℕ)) (h : Header) (d w k level y : ℕ) (top out : List ℕ)
+pub one_row : (known : Option (List ℕ)) (h : Header) (d w k level y : ℕ) (top out : List ℕ)
     → level ≡ suc k → d ≡ depth_of h.maximum → w ≡ side h.width k → IsDepth d → 1 ≤ h.width → 2 * y + 1 ≡ side h.height k
     → AreBytes top
-    → ((b : List ℕ) → told ≡ Some b → HasWords (depth_of h.maximum) (λ x. texture_texel h b k x (2 * y)) (side h.width k) top)
+    → ((b : List ℕ) → known ≡ Some b → HasWords (depth_of h.maximum) (λ x. texture_texel h b k x (2 * y)) (side h.width k) top)
     → IsHalvedRow d top top w ((w + 1) / 2) out
-    → (b : List ℕ) → told ≡ Some b → HasWords (depth_of h.maximum) (λ x. texture_texel h b level x y) (side h.width level) out
-one_row told h d w k level y top out el ed ew depth wide last bytes above half b e =
+    → (b : List ℕ) → known ≡ Some b → HasWords (depth_of h.maximum) (λ x. texture_texel h b level x y) (side h.width level) out
+one_row known h d w k level y top out el ed ew depth wide last bytes above half b e =
     let Half : ℕ → ℕ → Type 0 = λ m n. IsHalvedRow m top top n ((n + 1) / 2) out in
     rw el (next_words h b k y top top out (subst IsDepth ed depth) wide bytes bytes
     (place_same h b k top (2 * y) (clamped (side h.height k) (2 * y)) (omega arith) (above b e))
@@ -152,10 +152,10 @@ words_row d word columns out depth bytes full words = record {
   each = λ x inside. sym (texel_words d out x depth bytes) ∙ ap (word_bytes d) (words.each x inside);
 }
 
--- what holds of the bytes wherever they are told
-if_told : {A : Type 0} (o : Option A) (P : A → Type 0) → ((b : A) → o ≡ Some b → P b) → IfSome o P
-if_told None P all = tt
-if_told (Some b) P all = all b refl
+-- what holds of the bytes wherever they are known
+if_known : {A : Type 0} (o : Option A) (P : A → Type 0) → ((b : A) → o ≡ Some b → P b) → IfSome o P
+if_known None P all = tt
+if_known (Some b) P all = all b refl
 
 -- a row of a level as callers see it
 pub row_seen : {T E F : Type 0} (r : Result T E) (bytes : F → Option (List ℕ)) (u v : StripChainView F) (level y : ℕ) (out : List ℕ) → u ≡ v
@@ -166,7 +166,7 @@ pub row_seen : {T E F : Type 0} (r : Result T E) (bytes : F → Option (List ℕ
     (side v.header.width level) out))
 row_seen (Err e) bytes u v level y out same full words values = tt
 row_seen {F = F} (Ok x) bytes u v level y out same full words values =
-    if_told (bytes v.file) (λ b. IsTexelRow (depth_of v.header.maximum) (λ x. texture_texel v.header b level x y) (side v.header.width level) out)
+    if_known (bytes v.file) (λ b. IsTexelRow (depth_of v.header.maximum) (λ x. texture_texel v.header b level x y) (side v.header.width level) out)
     (λ b e. words_row (depth_of v.header.maximum) (λ x. texture_texel v.header b level x y) (side v.header.width level) out
     (depth_is v.header.maximum) values full
     (subst (λ (w : StripChainView F). bytes w.file ≡ Some b → HasWords (depth_of w.header.maximum) (λ x. texture_texel w.header b level x y)

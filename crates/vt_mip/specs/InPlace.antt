@@ -12,7 +12,7 @@ pub record IsShrunk (d : ℕ) (source : List ℕ) (w h n : ℕ) (samples : List 
   pub rest : drop (d * (3 * w * (2 * n))) samples ≡ drop (d * (3 * w * (2 * n))) source
 
 -- so many bytes hold an image whose sides are those of one that is cut into tiles, and so many have room for half a row of it
-pub record IsRoomFor (d w h space room : ℕ) : Type 0 where
+pub record IsRoomForHalving (d w h space room : ℕ) : Type 0 where
   pub depth : IsDepth d
   pub some_columns : 1 ≤ w
   pub few_columns : w ≤ most_tiled_side

@@ -17,12 +17,12 @@ pub record IsLevel (base : ImageView) (k : ℕ) (p : ImageView) : Type 0 where
   pub lawful : IsLawfulImage p
 
 -- the image of no texels, which no list of levels holds
-abbrev pub blank : ImageView
-blank = record { depth = 0; width = 0; height = 0; samples = [] }
+abbrev pub no_image : ImageView
+no_image = record { depth = 0; width = 0; height = 0; samples = [] }
 
 -- the image of a level
 abbrev pub level_at : List ImageView → ℕ → ImageView
-level_at levels k = slice_index_or levels k blank
+level_at levels k = slice_index_or levels k no_image
 
 -- the image of the last level
 abbrev pub coarsest : List ImageView → ImageView

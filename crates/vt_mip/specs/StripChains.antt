@@ -76,12 +76,12 @@ pub record IsBelow (h : Header) (level y d w s n : ℕ) : Type 0 where
   pub short : s ≤ most_tiled_side
 
 -- the place of a row of the texture
-abbrev pub row_place : Header → Bool → ℕ → Place
-row_place h failed y = record { at = row_start h y; len = 1 * row_length h; failed = failed }
+abbrev pub texture_row_place : Header → Bool → ℕ → Place
+texture_row_place h failed y = record { at = row_start h y; len = 1 * row_length h; failed = failed }
 
 -- the places of so many rows from one on, in order
 abbrev pub row_places : Header → ℕ → ℕ → List Place
-row_places h first n = map (row_place h false) (range_with_len first n)
+row_places h first n = map (texture_row_place h false) (range_with_len first n)
 
 -- so many rows from one on were asked more, each once and in order
 abbrev pub RowsRead : Header → ℕ → ℕ → Option (List Place) → Option (List Place) → Type 0
@@ -91,4 +91,4 @@ RowsRead h first n before after = after ≡ option_map (λ places. places ++ row
 pub record RowsFailed (h : Header) (first n : ℕ) (before after : Option (List Place)) : Type 0 where
   pub count : ℕ
   pub few : count < n
-  pub asked : after ≡ option_map (λ places. places ++ (row_places h first count ++ row_place h true (first + count) ∷ [])) before
+  pub asked : after ≡ option_map (λ places. places ++ (row_places h first count ++ texture_row_place h true (first + count) ∷ [])) before

@@ -7,7 +7,7 @@ ghost use Rattle.vt_ppm.specs.Files.{IsPiece};
 ghost use Rattle.vt_ppm.specs.Format.{depth_of};
 ghost use Rattle.vt_ppm.specs.Image.{ImageView, IsLawfulImage};
 ghost use Rattle.vt_ppm.specs.StripPlaces.{StripsAsked, StripsTried, strip_rows, strips_of};
-ghost use Rattle.vt_ppm.specs.Strips.{IsTextureHeader, RowsAsked, row_length, rows_of, texture_of};
+ghost use Rattle.vt_ppm.specs.Strips.{IsTextureHeader, RowsAsked, row_length, sample_rows, texture_of};
 ghost use Rattle.vt_mip.specs.Halves.{IsHalf};
 ghost use Rattle.vt_mip.specs.TakenRows.{HalvesFront};
 ghost use Rattle.vt_mip.specs.HalvedStrips.{HoldsStrip, IsAtStrip, IsHalvedTo, KeepsReader, reader_state, strip_height, strip_length};

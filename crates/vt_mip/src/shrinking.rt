@@ -5,7 +5,7 @@ ghost use Rattle.vt_ppm.specs.Depths.{IsDepth, texel_length};
 ghost use Rattle.vt_ppm.specs.Files.{IsPiece};
 ghost use Rattle.vt_ppm.specs.Image.{ImageView, IsLawfulImage};
 ghost use Rattle.vt_mip.specs.Halves.{IsHalf};
-ghost use Rattle.vt_mip.specs.InPlace.{IsRoomFor, IsShrunk, ShrinksFront};
+ghost use Rattle.vt_mip.specs.InPlace.{IsRoomForHalving, IsShrunk, ShrinksFront};
 
 use std::alloc::Global;
 use std::marker::Model;
@@ -46,7 +46,7 @@ struct Sizes {
 
 // Halves a pair of rows, or an odd last row, where the pairs before it are halved.
 fn halve_pair(sizes: Sizes, pair: usize, samples: &mut [u8], row: &mut [u8])
-    requires room { IsRoomFor sizes.depth sizes.width sizes.height (length samples.old) (length row.old) }
+    requires room { IsRoomForHalving sizes.depth sizes.width sizes.height (length samples.old) (length row.old) }
     requires inside { pair < (sizes.height + 1) / 2 }
     ensures { (source : List ℕ) → IsShrunk sizes.depth source sizes.width sizes.height pair samples.old
         → IsShrunk sizes.depth source sizes.width sizes.height (pair + 1) samples.new }
@@ -73,7 +73,7 @@ fn halve_pair(sizes: Sizes, pair: usize, samples: &mut [u8], row: &mut [u8])
 
 // Halves so many pairs of rows behind those that are halved.
 fn halve_pairs(sizes: Sizes, first: usize, end: usize, samples: &mut [u8], row: &mut [u8])
-    requires room { IsRoomFor sizes.depth sizes.width sizes.height (length samples.old) (length row.old) }
+    requires room { IsRoomForHalving sizes.depth sizes.width sizes.height (length samples.old) (length row.old) }
     requires order { first ≤ end }
     requires inside { end ≤ (sizes.height + 1) / 2 }
     ensures { (source : List ℕ) → IsShrunk sizes.depth source sizes.width sizes.height first samples.old

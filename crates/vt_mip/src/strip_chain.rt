@@ -7,7 +7,7 @@ ghost use Rattle.vt_ppm.specs.Sides.{side, level_count};
 ghost use Rattle.vt_ppm.specs.Tiles.{IsTileSide};
 ghost use Rattle.vt_ppm.specs.Counts.{Rose};
 ghost use Rattle.vt_ppm.specs.Format.{depth_of};
-ghost use Rattle.vt_ppm.specs.Strips.{IsTextureIfTold, RowsAsked, row_length, rows_of};
+ghost use Rattle.vt_ppm.specs.Strips.{IsTextureIfKnown, RowsAsked, row_length, sample_rows};
 ghost use Rattle.vt_mip.specs.Chains.{IsTexelRow};
 ghost use Rattle.vt_mip.specs.StripChains.{HasWords, IsBelow, RowsRead, RowsFailed, first_under, rows_under, level_row_length, room_length, texture_texel};
 
@@ -218,7 +218,7 @@ impl<F: File> StripChain<F> {
     pub fn depth(&self) -> u32
         ensures value { result ≡ depth_of self.now.header.maximum }
         ensures depth { IsDepth result }
-        ensures texture { IsTextureIfTold (F.bytes self.now.file) self.now.header }
+        ensures texture { IsTextureIfKnown (F.bytes self.now.file) self.now.header }
     {
         let _ = self.reader.header();
         self.reader.depth()
@@ -253,8 +253,8 @@ impl<F: File> StripChain<F> {
         requires spare { 1 ≤ F.spare self.old.file }
         requires inside { y + count ≤ self.old.header.height }
         requires size { length out.old ≡ count * row_length self.old.header }
-        ensures rows { OnOk result (IfSome (F.bytes self.old.file) (λ b. out.new ≡ rows_of self.old.header b y count)) }
-        ensures texture { IsTextureIfTold (F.bytes self.old.file) self.old.header }
+        ensures rows { OnOk result (IfSome (F.bytes self.old.file) (λ b. out.new ≡ sample_rows self.old.header b y count)) }
+        ensures texture { IsTextureIfKnown (F.bytes self.old.file) self.old.header }
         ensures failed { IsErr result → Rose (F.faults self.old.file) (F.faults self.new.file) }
         ensures asked { RowsAsked self.old.header y count (is_err result) (F.asked self.old.file) (F.asked self.new.file) }
         ensures spare { F.spare self.old.file ≤ F.spare self.new.file + 1 }

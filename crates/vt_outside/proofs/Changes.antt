@@ -15,10 +15,10 @@ with_appended-with_bytes n s t f =
     [ true ↦ refl | false ↦ refl ])
 
 -- the same where the files may be untold
-pub told-bytes-appended : (n s t : List ℕ) (o : Option Files)
+pub known-bytes-appended : (n s t : List ℕ) (o : Option Files)
     → option_map (with_appended n t) (option_map (with_bytes n s) o) ≡ option_map (with_bytes n (s ++ t)) o
-told-bytes-appended n s t None = refl
-told-bytes-appended n s t (Some f) = ap Some (with_appended-with_bytes n s t f)
+known-bytes-appended n s t None = refl
+known-bytes-appended n s t (Some f) = ap Some (with_appended-with_bytes n s t f)
 
 -- the whole of one piece and a prefix of the next is a prefix of both
 pub front_of_two : (s t : List ℕ) (k : ℕ) → s ++ take k t ≡ take (length s + k) (s ++ t)

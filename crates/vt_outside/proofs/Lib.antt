@@ -1,5 +1,5 @@
 pub mod Changes
-pub mod Untold
+pub mod UnknownContents
 pub mod Fronts
 pub mod SameLists
 pub mod Named

@@ -7,14 +7,14 @@ use Rattle.std.proofs.lemmas.Slice.Eq.{bytes_eq-Decides}
 use Rattle.std.proofs.lemmas.List.{append-nil}
 use Rattle.vt_outside.specs.Counts.{Rose}
 use Rattle.vt_outside.specs.Files.{Files, with_bytes, with_appended, bytes_at}
-use Rattle.vt_outside.proofs.Changes.{told-bytes-appended}
+use Rattle.vt_outside.proofs.Changes.{known-bytes-appended}
 use Rattle.vt_outside.specs.declared.answers.OutsideError.{OutsideError}
 use Rattle.vt_outside.specs.declared.answers.OutsideError.TheVariants.{Failed, NoMemory}
 use Rattle.vt_outside.proofs.Refusing.{rose_later}
 use Rattle.vt_outside.specs.Effects.{FolderState, FolderEffect}
 use Rattle.vt_outside.specs.Expectations.{ExpectedFile, with_files, IsWrittenPrefix, IsPart, FailsOnly, AsksNone, Writes}
 
-pub no_files : (told : Option Files) → told ≡ option_map (with_files []) told
+pub no_files : (known : Option Files) → known ≡ option_map (with_files []) known
 no_files None = refl
 no_files (Some files) = refl
 
@@ -23,10 +23,10 @@ files_then [] ys files = refl
 files_then (x ∷ xs) ys files = files_then xs ys (with_bytes x.name x.bytes files)
 
 -- files and then others are all of them
-pub told_then : (xs ys : List ExpectedFile) (told : Option Files)
-    → option_map (with_files (xs ++ ys)) told ≡ option_map (with_files ys) (option_map (with_files xs) told)
-told_then xs ys None = refl
-told_then xs ys (Some files) = ap Some (files_then xs ys files)
+pub known_then : (xs ys : List ExpectedFile) (known : Option Files)
+    → option_map (with_files (xs ++ ys)) known ≡ option_map (with_files ys) (option_map (with_files xs) known)
+known_then xs ys None = refl
+known_then xs ys (Some files) = ap Some (files_then xs ys files)
 
 pub part_none : (expected : List ExpectedFile) (before after : Option Files) → after ≡ before → IsPart expected before after
 part_none expected before after same = record { whole = []; rest = expected; split = refl; front = first expected }
@@ -86,8 +86,8 @@ part_later whole one rest before mid after is part = record {
       ∙ ap (λ (files : List ExpectedFile). whole ++ files) (append_assoc part.whole part.rest rest)
       ∙ sym (append_assoc whole part.whole (part.rest ++ rest));
   front = front_more part.rest rest (option_map (with_files (whole ++ part.whole)) before) after
-      (subst (λ (told : Option Files). IsWrittenPrefix part.rest told after)
-      (ap (option_map (with_files part.whole)) is ∙ sym (told_then whole part.whole before)) part.front);
+      (subst (λ (known : Option Files). IsWrittenPrefix part.rest known after)
+      (ap (option_map (with_files part.whole)) is ∙ sym (known_then whole part.whole before)) part.front);
 }
 
 -- nothing was written for want of memory
@@ -111,9 +111,9 @@ same_name name = (bytes_eq-Decides name name).1 refl
 -- a name that was made to hold bytes is there
 pub is_there : (name bytes : List ℕ) (before mid : Option Files) → mid ≡ option_map (with_bytes name bytes) before
     → OnSome mid (IsSome (bytes_at mid name))
-is_there name bytes before mid is = subst (λ (told : Option Files). OnSome told (IsSome (bytes_at told name))) (sym is) (there before)
+is_there name bytes before mid is = subst (λ (known : Option Files). OnSome known (IsSome (bytes_at known name))) (sym is) (there before)
   where
-    there : (told : Option Files) → OnSome (option_map (with_bytes name bytes) told) (IsSome (bytes_at (option_map (with_bytes name bytes) told) name))
+    there : (known : Option Files) → OnSome (option_map (with_bytes name bytes) known) (IsSome (bytes_at (option_map (with_bytes name bytes) known) name))
     there None = tt
     there (Some files) = rw (same_name name) refl
 
@@ -131,13 +131,13 @@ pub appended : (file : ExpectedFile) (before mid after : FolderState) (r : Resul
     → Writes (file ∷ []) (record { before = before; after = after }) r
 appended file before mid after (Ok t) made first then whole part failed = (
   asks_both before mid after first then,
-  whole ∙ ap (option_map (with_appended file.name file.bytes)) made ∙ told-bytes-appended file.name [] file.bytes before.files,
+  whole ∙ ap (option_map (with_appended file.name file.bytes)) made ∙ known-bytes-appended file.name [] file.bytes before.files,
 )
 appended file before mid after (Err error) made first then whole part failed = (
   asks_both before mid after first then,
   part_front file before.files after.files part.0
       (part.1 ∙ ap (option_map (with_appended file.name (take part.0 file.bytes))) made
-      ∙ told-bytes-appended file.name [] (take part.0 file.bytes) before.files),
+      ∙ known-bytes-appended file.name [] (take part.0 file.bytes) before.files),
   fails_later before.faults mid.faults after.faults error first.faults (fails_as error (Err error) (Rose mid.faults after.faults) refl failed),
 )
 

@@ -4,13 +4,13 @@ use Rattle.vt_outside.specs.Files.{Files, Asked}
 use Rattle.vt_outside.specs.declared.outside.Folder.{Ghosts as FolderMeanings}
 use Rattle.vt_outside.specs.declared.outside.Sink.{Ghosts as SinkMeanings}
 
--- a folder: what it holds and the places that were asked of each name, where they are told, and its count of faults
+-- a folder: what it holds and the places that were asked of each name, where they are known, and its count of faults
 pub record FolderState : Type 0 where
   pub files : Option Files
   pub asked : Option Asked
   pub faults : ℕ
 
--- a sink: the text that was put, where it is told, and its counts of faults and of puts refused for memory
+-- a sink: the text that was put, where it is known, and its counts of faults and of puts refused for memory
 pub record SinkState : Type 0 where
   pub held : Option (List ℕ)
   pub faults : ℕ
@@ -52,6 +52,6 @@ pub record IsWithoutEffect (c : CallEffect) : Type 0 where
   pub held : c.out.after.held ≡ c.out.before.held
 
 -- nothing was asked: files, places, text and counts are as before
-pub record IsIdle (c : CallEffect) : Type 0 where
+pub record HasNoEffect (c : CallEffect) : Type 0 where
   pub folder : c.folder.after ≡ c.folder.before
   pub out : c.out.after ≡ c.out.before

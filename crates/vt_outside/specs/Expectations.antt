@@ -62,9 +62,9 @@ Writes files p (Ok _) = AsksNone p × (p.after.files ≡ option_map (with_files 
 Writes files p (Err error) = AsksNone p × IsPart files p.before.files p.after.files × FailsOnly (Rose p.before.faults p.after.faults) error
 
 -- the text was put, or a prefix of it
-abbrev pub Puts : {T : Type 0} → List ℕ → SinkEffect → Result T OutsideError → Type 0
-Puts text g (Ok _) = g.after.held ≡ option_map (gained text) g.before.held
-Puts text g (Err error) = ((k : ℕ) × (g.after.held ≡ option_map (gained (take k text)) g.before.held)) × FailsOnly (Rose g.before.faults g.after.faults) error
+abbrev pub PutsText : {T : Type 0} → List ℕ → SinkEffect → Result T OutsideError → Type 0
+PutsText text g (Ok _) = g.after.held ≡ option_map (gained text) g.before.held
+PutsText text g (Err error) = ((k : ℕ) × (g.after.held ≡ option_map (gained (take k text)) g.before.held)) × FailsOnly (Rose g.before.faults g.after.faults) error
 
 -- what is expected was left, or a part of it
 abbrev pub Leaves : {T : Type 0} → Expected → CallEffect → Result T OutsideError → Type 0

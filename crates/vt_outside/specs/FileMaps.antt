@@ -5,5 +5,5 @@ use Rattle.std.specs.declared.alloc.Global.{Global}
 use Rattle.vt_outside.specs.Files.{Files}
 
 -- what each name holds in the map
-abbrev pub held_by : BTreeMap (String Global) (Vec ℕ Global) → Files
-held_by entries = λ q. option_map (λ v. v.items) (get_by_text entries q)
+abbrev pub held_in_map : BTreeMap (String Global) (Vec ℕ Global) → Files
+held_in_map entries = λ q. option_map (λ v. v.items) (get_by_text entries q)

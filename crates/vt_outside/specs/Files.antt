@@ -13,19 +13,19 @@ Asked = List ℕ → List Place
 
 -- what a folder that may tell its files tells of a name
 abbrev pub bytes_at : Option Files → List ℕ → Option (List ℕ)
-bytes_at told name = option_and_then (λ files. files name) told
+bytes_at known name = option_and_then (λ files. files name) known
 
 -- the name is there, where the folder tells its files
 abbrev pub IsThere : Option Files → List ℕ → Type 0
-IsThere told name = OnSome told (IsSome (bytes_at told name))
+IsThere known name = OnSome known (IsSome (bytes_at known name))
 
 -- what the file tells, where it tells its bytes, are bytes: each is below 256
-abbrev pub TellsBytes : Option (List ℕ) → Type 0
-TellsBytes told = IfSome told (λ bytes. All (λ byte. byte < 256) bytes)
+abbrev pub AreBytesIfKnown : Option (List ℕ) → Type 0
+AreBytesIfKnown known = IfSome known (λ bytes. All (λ byte. byte < 256) bytes)
 
 -- the file has so many bytes from a place on, where it tells its bytes
 abbrev pub HasPlace : Option (List ℕ) → ℕ → ℕ → Type 0
-HasPlace told at len = IfSome told (λ bytes. at + len ≤ length bytes)
+HasPlace known at len = IfSome known (λ bytes. at + len ≤ length bytes)
 
 -- piece is what is in the bytes from a place on, and does not pass their end
 pub record IsPiece (bytes : List ℕ) (at : ℕ) (piece : List ℕ) : Type 0 where

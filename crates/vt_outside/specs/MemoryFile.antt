@@ -51,7 +51,7 @@ abbrev pub is_read_listed : MemoryFile → Bool
 is_read_listed file = is_listed (file_fails file) (Read (file_opening file) (file_reads file))
 
 -- a file of these bytes that was opened by that name and not read yet
-pub record IsUnread (file : MemoryFile) (name bytes : List ℕ) (fails : List Fail) (opening : ℕ) : Type 0 where
+pub record IsFileUnread (file : MemoryFile) (name bytes : List ℕ) (fails : List Fail) (opening : ℕ) : Type 0 where
   pub named : file_name file ≡ name
   pub held : file_bytes file ≡ bytes
   pub no_places : file_places file ≡ []

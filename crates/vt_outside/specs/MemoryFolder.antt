@@ -1,10 +1,10 @@
 -- What a folder in memory is, as callers speak of it.
 use Rattle.std.specs.Prelude.{◌≡◌, ℕ, Bool, List, [], None, Some, is_none}
 use Rattle.vt_outside.specs.ClosedFiles.{places_in}
-use Rattle.vt_outside.specs.FileMaps.{held_by}
+use Rattle.vt_outside.specs.FileMaps.{held_in_map}
 use Rattle.vt_outside.specs.Fails.{is_listed}
 use Rattle.vt_outside.specs.Files.{Files, Asked}
-use Rattle.vt_outside.specs.MemoryFile.{IsUnread, file_bytes}
+use Rattle.vt_outside.specs.MemoryFile.{IsFileUnread, file_bytes}
 use Rattle.vt_outside.specs.declared.fails.Fail.{Fail}
 use Rattle.vt_outside.specs.declared.fails.Fail.TheVariants.{Open, Create, Append}
 use Rattle.vt_outside.specs.declared.memory_file.MemoryFile.{MemoryFile}
@@ -19,8 +19,8 @@ abbrev pub no_places : Asked
 no_places = λ q. []
 
 -- the bytes of each name
-abbrev pub files_of : MemoryFolder → Files
-files_of folder = held_by folder.entries
+abbrev pub memory_files : MemoryFolder → Files
+memory_files folder = held_in_map folder.entries
 
 -- the places asked of each name by files that were closed, in the order of closing
 abbrev pub asked_of : MemoryFolder → Asked
@@ -52,7 +52,7 @@ faults_of folder = folder.faults
 
 -- the name is missing
 abbrev pub is_missing : MemoryFolder → List ℕ → Bool
-is_missing folder name = is_none (files_of folder name)
+is_missing folder name = is_none (memory_files folder name)
 
 -- the next call of `open` is in the list
 abbrev pub is_open_listed : MemoryFolder → Bool
@@ -67,6 +67,6 @@ abbrev pub is_append_listed : MemoryFolder → Bool
 is_append_listed folder = is_listed (fails_of folder) (Append (appends_of folder))
 
 -- a file of the name's bytes that was not read yet, with the folder's list and the number of openings so far
-pub record IsOpened (folder : MemoryFolder) (name : List ℕ) (file : MemoryFile) : Type 0 where
-  pub there : files_of folder name ≡ Some (file_bytes file)
-  pub unread : IsUnread file name (file_bytes file) (fails_of folder) (openings_of folder)
+pub record IsOpenedMemory (folder : MemoryFolder) (name : List ℕ) (file : MemoryFile) : Type 0 where
+  pub there : memory_files folder name ≡ Some (file_bytes file)
+  pub unread : IsFileUnread file name (file_bytes file) (fails_of folder) (openings_of folder)

@@ -1,13 +1,13 @@
 //! What tests ask of a folder in memory.
 ghost use Rattle.std.specs.Prelude.{◌≡◌, ◌↔◌, Some, IsTrue, slice_get};
-ghost use Rattle.vt_outside.specs.MemoryFolder.{files_of, asked_of};
+ghost use Rattle.vt_outside.specs.MemoryFolder.{memory_files, asked_of};
 
 use crate::{MemoryFolder, Place};
 
 impl MemoryFolder {
     /// Whether the name is there and holds these bytes.
     pub fn holds(&self, name: &str, bytes: &[u8]) -> bool
-        ensures { IsTrue result ↔ (files_of self.now name.now ≡ Some bytes.now) }
+        ensures { IsTrue result ↔ (memory_files self.now name.now ≡ Some bytes.now) }
     {
         match self.bytes_of(name) {
             Some(held) => held == bytes,

@@ -46,7 +46,7 @@ impl Remains {
 }
 
 impl MemoryFile {
-    ghost use Rattle.vt_outside.specs.MemoryFile.{IsUnread, file_name, file_places, file_faults};
+    ghost use Rattle.vt_outside.specs.MemoryFile.{IsFileUnread, file_name, file_places, file_faults};
 
     /// A file of these bytes that was not read yet.
     pub(crate) fn new(
@@ -56,7 +56,7 @@ impl MemoryFile {
         fails: &[Fail],
         opening: u64,
     ) -> Result<MemoryFile, NoMemory>
-        ensures { IfOk result (λ file. IsUnread file name.now bytes.now fails.now opening) }
+        ensures { IfOk result (λ file. IsFileUnread file name.now bytes.now fails.now opening) }
     {
         let bytes = Vec::from_slice(alloc, bytes)?;
         let fails = Vec::from_slice(alloc, fails)?;
@@ -109,7 +109,7 @@ impl File for MemoryFile {
 
     /// Answers the number of bytes. It fails exactly where `Length` of this opening is in the list.
     fn length(&mut self) -> Result<u64, Failed>
-        ensures told { IfOk result (λ n. n ≡ length (file_bytes self.old)) }
+        ensures known { IfOk result (λ n. n ≡ length (file_bytes self.old)) }
         ensures values { OnOk result (All (λ byte. byte < 256) (file_bytes self.old)) }
         ensures failed { is_err result ≡ is_length_listed self.old }
         ensures faults { file_faults self.new ≡ raised_if (is_err result) (file_faults self.old) }

@@ -1,7 +1,7 @@
 ghost use Rattle.std.specs.Prelude.{◌≡◌, ◌≤◌, ℕ, List, ◌/◌, ◌||◌, [], Some, false, length, take, IsTrue, is_some, is_ok, if◌then◌else◌, slice_get, is_none, IfOk, IsErrOf, OnOk, OnErr};
 ghost use Rattle.std.specs.Option.{option_copied, option_map};
 ghost use Rattle.vt_outside.specs.Counts.{added};
-ghost use Rattle.vt_outside.specs.FileMaps.{held_by};
+ghost use Rattle.vt_outside.specs.FileMaps.{held_in_map};
 ghost use Rattle.vt_outside.specs.Files.{with_appended, with_bytes, with_places};
 ghost use Rattle.vt_outside.specs.Outcomes.{is_failed};
 
@@ -29,11 +29,11 @@ pub struct MemoryFolder {
 }
 
 impl MemoryFolder {
-    ghost use Rattle.vt_outside.specs.MemoryFolder.{IsOpened, no_files, no_places, files_of, asked_of, fails_of, opens_of, openings_of, creates_of, appends_of, faults_of, is_missing};
+    ghost use Rattle.vt_outside.specs.MemoryFolder.{IsOpenedMemory, no_files, no_places, memory_files, asked_of, fails_of, opens_of, openings_of, creates_of, appends_of, faults_of, is_missing};
 
     /// A folder of no names, with the calls that are to fail. It takes no memory.
     pub fn new(alloc: Global, fails: Fails) -> MemoryFolder
-        ensures files { files_of result ≡ no_files }
+        ensures files { memory_files result ≡ no_files }
         ensures asked { asked_of result ≡ no_places }
         ensures fails { fails_of result ≡ fails.elements }
         ensures opens { opens_of result ≡ 0 }
@@ -57,7 +57,7 @@ impl MemoryFolder {
 
     /// Makes the name hold these bytes, whether it was there or not. It counts as no call, and after a refusal nothing changed.
     pub fn add(&mut self, name: &str, bytes: &[u8]) -> Result<(), NoMemory>
-        ensures files { files_of self.new ≡ (if is_ok result then with_bytes name.now bytes.now (files_of self.old) else files_of self.old) }
+        ensures files { memory_files self.new ≡ (if is_ok result then with_bytes name.now bytes.now (memory_files self.old) else memory_files self.old) }
         ensures asked { asked_of self.new ≡ asked_of self.old }
         ensures fails { fails_of self.new ≡ fails_of self.old }
         ensures opens { opens_of self.new ≡ opens_of self.old }
@@ -71,7 +71,7 @@ impl MemoryFolder {
 
     /// The bytes of a name; `None` exactly where the name is missing.
     pub fn bytes_of(&self, name: &str) -> Option<&[u8]>
-        ensures { option_copied result ≡ files_of self.now name.now }
+        ensures { option_copied result ≡ memory_files self.now name.now }
     {
         match self.entries.get(name) {
             Some(bytes) => Some(bytes.as_slice()),
@@ -92,7 +92,7 @@ impl MemoryFolder {
 
     // A file of the name's bytes; refused where the call met a fault, or the name is missing.
     fn opened(&self, name: &str, met: bool) -> Result<MemoryFile, OutsideError>
-        ensures file { IfOk result (λ file. IsOpened self.now name.now file) }
+        ensures file { IfOk result (λ file. IsOpenedMemory self.now name.now file) }
         ensures failed { is_failed result ≡ (met || is_missing self.now name.now) }
     {
         if met {
@@ -113,8 +113,8 @@ fn put_bytes(
     name: &str,
     held: Vec<u8>,
 ) -> Result<(), NoMemory>
-    ensures { (q : List ℕ) → held_by entries.new q
-        ≡ (if is_ok result then with_bytes name.now held.items (held_by entries.old) q else held_by entries.old q) }
+    ensures { (q : List ℕ) → held_in_map entries.new q
+        ≡ (if is_ok result then with_bytes name.now held.items (held_in_map entries.old) q else held_in_map entries.old q) }
 {
     let key = String::from_str(alloc, name)?;
     entries.insert(key, held)?;
@@ -123,7 +123,7 @@ fn put_bytes(
 
 // Makes the name hold a copy of these bytes.
 fn put_copy(entries: &mut Entries, alloc: Global, name: &str, bytes: &[u8]) -> Result<(), NoMemory>
-    ensures { held_by entries.new ≡ (if is_ok result then with_bytes name.now bytes.now (held_by entries.old) else held_by entries.old) }
+    ensures { held_in_map entries.new ≡ (if is_ok result then with_bytes name.now bytes.now (held_in_map entries.old) else held_in_map entries.old) }
 {
     let held = Vec::from_slice(alloc, bytes)?;
     put_bytes(entries, alloc, name, held)?;
@@ -137,7 +137,7 @@ fn put_nothing(
     name: &str,
     met: bool,
 ) -> Result<(), OutsideError>
-    ensures files { held_by entries.new ≡ (if is_ok result then with_bytes name.now [] (held_by entries.old) else held_by entries.old) }
+    ensures files { held_in_map entries.new ≡ (if is_ok result then with_bytes name.now [] (held_in_map entries.old) else held_in_map entries.old) }
     ensures failed { is_failed result ≡ met }
 {
     if met {
@@ -150,9 +150,9 @@ fn put_nothing(
 
 // Adds bytes to what the name holds; answers whether it is there.
 fn append_bytes(entries: &mut Entries, name: &str, bytes: &[u8]) -> Result<bool, AllocError>
-    ensures found { IfOk result (λ found. found ≡ is_some (held_by entries.old name.now)) }
-    ensures added { (q : List ℕ) → held_by entries.new q
-        ≡ (if is_ok result then with_appended name.now bytes.now (held_by entries.old) q else held_by entries.old q) }
+    ensures found { IfOk result (λ found. found ≡ is_some (held_in_map entries.old name.now)) }
+    ensures added { (q : List ℕ) → held_in_map entries.new q
+        ≡ (if is_ok result then with_appended name.now bytes.now (held_in_map entries.old) q else held_in_map entries.old q) }
 {
     let Some(held) = entries.get_mut(name) else {
         return Ok(false);
@@ -168,12 +168,12 @@ fn append_part(
     bytes: &[u8],
     met: bool,
 ) -> Result<(), OutsideError>
-    ensures files { OnOk result (held_by entries.new ≡ with_appended name.now bytes.now (held_by entries.old)) }
+    ensures files { OnOk result (held_in_map entries.new ≡ with_appended name.now bytes.now (held_in_map entries.old)) }
     ensures half { IsErrOf result OutsideError.Failed
-        → held_by entries.new ≡ with_appended name.now (take (length bytes.now / 2) bytes.now) (held_by entries.old) }
-    ensures none { IsErrOf result OutsideError.NoMemory → held_by entries.new ≡ held_by entries.old }
-    ensures failed { IsErrOf result OutsideError.Failed → IsTrue (met || is_none (held_by entries.old name.now)) }
-    ensures done { OnOk result ((met || is_none (held_by entries.old name.now)) ≡ false) }
+        → held_in_map entries.new ≡ with_appended name.now (take (length bytes.now / 2) bytes.now) (held_in_map entries.old) }
+    ensures none { IsErrOf result OutsideError.NoMemory → held_in_map entries.new ≡ held_in_map entries.old }
+    ensures failed { IsErrOf result OutsideError.Failed → IsTrue (met || is_none (held_in_map entries.old name.now)) }
+    ensures done { OnOk result ((met || is_none (held_in_map entries.old name.now)) ≡ false) }
 {
     let found = append_bytes(entries, name, part_of(bytes, met))?;
     if met || !found {
@@ -183,13 +183,13 @@ fn append_part(
 }
 
 impl Folder for MemoryFolder {
-    ghost use Rattle.vt_outside.specs.MemoryFolder.{files_of, asked_of, fails_of, opens_of, openings_of, creates_of, appends_of, faults_of, is_missing, is_open_listed, is_create_listed, is_append_listed};
+    ghost use Rattle.vt_outside.specs.MemoryFolder.{memory_files, asked_of, fails_of, opens_of, openings_of, creates_of, appends_of, faults_of, is_missing, is_open_listed, is_create_listed, is_append_listed};
     ghost use Rattle.vt_outside.specs.MemoryFile.{file_name, file_bytes, file_places, file_fails, file_opening, file_reads, file_faults};
     ghost use Rattle.vt_outside.specs.Outcomes.{raised_if};
 
     type File = MemoryFile;
 
-    ghost files = { λ folder. Some (files_of folder) };
+    ghost files = { λ folder. Some (memory_files folder) };
 
     ghost asked = { λ folder. Some (asked_of folder) };
 
@@ -198,7 +198,7 @@ impl Folder for MemoryFolder {
     /// Opens a name for reading. It fails exactly where `Open` of the number of calls so far is in the list, or the name is missing;
     /// only a call in the list raises the count. The file has the folder's list, and the number of openings so far.
     fn open(&mut self, name: &str) -> Result<MemoryFile, OutsideError>
-        ensures bytes { IfOk result (λ file. files_of self.old name.now ≡ Some (file_bytes file)) }
+        ensures bytes { IfOk result (λ file. memory_files self.old name.now ≡ Some (file_bytes file)) }
         ensures places { IfOk result (λ file. file_places file ≡ []) }
         ensures name { IfOk result (λ file. file_name file ≡ name.now) }
         ensures no_faults { IfOk result (λ file. file_faults file ≡ 0) }
@@ -210,7 +210,7 @@ impl Folder for MemoryFolder {
         ensures rises { faults_of self.old ≤ faults_of self.new }
         ensures opens { opens_of self.new ≡ added (opens_of self.old) 1 }
         ensures openings { openings_of self.new ≡ raised_if (is_ok result) (openings_of self.old) }
-        ensures files { files_of self.new ≡ files_of self.old }
+        ensures files { memory_files self.new ≡ memory_files self.old }
         ensures asked { asked_of self.new ≡ asked_of self.old }
         ensures fails { fails_of self.new ≡ fails_of self.old }
         ensures creates { creates_of self.new ≡ creates_of self.old }
@@ -231,7 +231,7 @@ impl Folder for MemoryFolder {
         ensures asked { asked_of self.new ≡ with_places (file_name file) (Some (file_places file)) (asked_of self.old) }
         ensures faults { faults_of self.new ≡ added (faults_of self.old) (file_faults file) }
         ensures kept { faults_of self.old ≤ faults_of self.new }
-        ensures files { files_of self.new ≡ files_of self.old }
+        ensures files { memory_files self.new ≡ memory_files self.old }
         ensures fails { fails_of self.new ≡ fails_of self.old }
         ensures opens { opens_of self.new ≡ opens_of self.old }
         ensures openings { openings_of self.new ≡ openings_of self.old }
@@ -250,7 +250,7 @@ impl Folder for MemoryFolder {
 
     /// Makes the name hold no bytes. It fails exactly where `Create` of the number of calls so far is in the list, and only then the count rises.
     fn create(&mut self, name: &str) -> Result<(), OutsideError>
-        ensures files { files_of self.new ≡ (if is_ok result then with_bytes name.now [] (files_of self.old) else files_of self.old) }
+        ensures files { memory_files self.new ≡ (if is_ok result then with_bytes name.now [] (memory_files self.old) else memory_files self.old) }
         ensures failed { is_failed result ≡ is_create_listed self.old }
         ensures faults { faults_of self.new ≡ raised_if (is_failed result) (faults_of self.old) }
         ensures rises { faults_of self.old ≤ faults_of self.new }
@@ -271,12 +271,12 @@ impl Folder for MemoryFolder {
     /// or the name is missing; only a call in the list raises the count. An append that fails leaves the first half of the bytes
     /// (their number halved, rounded down) where the name is there; one that is refused for memory leaves none.
     fn append(&mut self, name: &str, bytes: &[u8]) -> Result<(), OutsideError>
-        ensures files { OnOk result (files_of self.new ≡ with_appended name.now bytes.now (files_of self.old)) }
+        ensures files { OnOk result (memory_files self.new ≡ with_appended name.now bytes.now (memory_files self.old)) }
         ensures part { OnErr result ((k : ℕ)
-            × (Some (files_of self.new) ≡ option_map (with_appended name.now (take k bytes.now)) (Some (files_of self.old)))) }
+            × (Some (memory_files self.new) ≡ option_map (with_appended name.now (take k bytes.now)) (Some (memory_files self.old)))) }
         ensures half { IsErrOf result OutsideError.Failed
-            → files_of self.new ≡ with_appended name.now (take (length bytes.now / 2) bytes.now) (files_of self.old) }
-        ensures none { IsErrOf result OutsideError.NoMemory → files_of self.new ≡ files_of self.old }
+            → memory_files self.new ≡ with_appended name.now (take (length bytes.now / 2) bytes.now) (memory_files self.old) }
+        ensures none { IsErrOf result OutsideError.NoMemory → memory_files self.new ≡ memory_files self.old }
         ensures failed { IsErrOf result OutsideError.Failed → IsTrue (is_append_listed self.old || is_missing self.old name.now) }
         ensures done { OnOk result ((is_append_listed self.old || is_missing self.old name.now) ≡ false) }
         ensures faults { faults_of self.new ≡ raised_if (is_append_listed self.old) (faults_of self.old) }

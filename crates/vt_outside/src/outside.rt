@@ -1,6 +1,6 @@
 ghost use Rattle.std.specs.Prelude.{◌≡◌, ℕ, ◌+◌, ◌≤◌, List, [], length, take, Option, is_some, is_err, option_map, if◌then◌else◌, IsErr, IsErrOf, IfOk, IfSome, OnOk, OnErr, OnSome};
 ghost use Rattle.vt_outside.specs.Counts.{Rose, added};
-ghost use Rattle.vt_outside.specs.Files.{Files, Asked, IsPiece, TellsBytes, HasPlace, IsThere, noted, with_bytes, with_appended, with_places, bytes_at, gained};
+ghost use Rattle.vt_outside.specs.Files.{Files, Asked, IsPiece, AreBytesIfKnown, HasPlace, IsThere, noted, with_bytes, with_appended, with_places, bytes_at, gained};
 ghost use Rattle.vt_outside.specs.declared.place.Place.{Place};
 
 use crate::{Failed, NoMemory, OutsideError, Point};
@@ -10,13 +10,13 @@ use crate::{Failed, NoMemory, OutsideError, Point};
 /// What it holds may be untold, as for a real file: then clauses on its bytes or its places say nothing.
 /// A count of faults never falls; at the end of its type it stands still, and then counts as risen.
 pub trait File {
-    /// The bytes, where they are told. No call changes them.
+    /// The bytes, where they are known. No call changes them.
     ghost bytes: { Self → Option (List ℕ) };
 
-    /// The places asked so far, in order, where they are told.
+    /// The places asked so far, in order, where they are known.
     ghost asked: { Self → Option (List Place) };
 
-    /// The name that was opened; it says something only where places are told. No call changes it.
+    /// The name that was opened; it says something only where places are known. No call changes it.
     ghost name: { Self → List ℕ };
 
     /// How many more reads it can note.
@@ -27,8 +27,8 @@ pub trait File {
 
     /// Answers the number of bytes. Once it did, what is told are bytes, each below 256.
     fn length(&mut self) -> Result<u64, Failed>
-        ensures told { IfOk result (λ n. IfSome (bytes self.old) (λ b. n ≡ length b)) }
-        ensures values { OnOk result (TellsBytes (bytes self.old)) }
+        ensures known { IfOk result (λ n. IfSome (bytes self.old) (λ b. n ≡ length b)) }
+        ensures values { OnOk result (AreBytesIfKnown (bytes self.old)) }
         ensures failed { IsErr result → Rose (faults self.old) (faults self.new) }
         ensures bytes { bytes self.new ≡ bytes self.old }
         ensures asked { asked self.new ≡ asked self.old }
@@ -49,7 +49,7 @@ pub trait File {
     fn read_at(&mut self, at: u64, buf: &mut [u8]) -> Result<(), Failed>
         requires { 1 ≤ spare self.old }
         ensures piece { OnOk result (IfSome (bytes self.old) (λ b. IsPiece b at buf.new)) }
-        // The count rises, but at a place past the end of bytes that are told.
+        // The count rises, but at a place past the end of bytes that are known.
         ensures failed { IsErr result → HasPlace (bytes self.old) at (length buf.new) → Rose (faults self.old) (faults self.new) }
         ensures asked { asked self.new ≡ option_map (noted at (length buf.new) (is_err result)) (asked self.old) }
         ensures spare { spare self.old ≤ spare self.new + 1 }
@@ -62,10 +62,10 @@ pub trait File {
 pub trait Folder {
     type File: File + Send;
 
-    /// The bytes of each name, where they are told.
+    /// The bytes of each name, where they are known.
     ghost files: { Self → Option Files };
 
-    /// The places asked of each name by files that were closed, in the order of closing, where they are told.
+    /// The places asked of each name by files that were closed, in the order of closing, where they are known.
     ghost asked: { Self → Option Asked };
 
     /// How many faults it has met.
@@ -75,11 +75,11 @@ pub trait Folder {
     fn open(&mut self, name: &str) -> Result<Self::File, OutsideError>
         ensures bytes { IfOk result (λ file. Self.File.bytes file ≡ bytes_at (files self.old) name.now) }
         // A file tells its bytes exactly where the folder tells its files, and its places where the folder does.
-        ensures tells { IfOk result (λ file. is_some (Self.File.bytes file) ≡ is_some (files self.old)) }
+        ensures known_too { IfOk result (λ file. is_some (Self.File.bytes file) ≡ is_some (files self.old)) }
         ensures no_places { IfOk result (λ file. Self.File.asked file ≡ option_map (λ _. []) (asked self.old)) }
         ensures name { IfOk result (λ file. OnSome (asked self.old) (Self.File.name file ≡ name.now)) }
         ensures no_faults { IfOk result (λ file. Self.File.faults file ≡ 0) }
-        // The count rises, but at a missing name of files that are told.
+        // The count rises, but at a missing name of files that are known.
         ensures failed { IsErrOf result OutsideError.Failed → IsThere (files self.old) name.now → Rose (faults self.old) (faults self.new) }
         ensures files { files self.new ≡ files self.old }
         ensures asked { asked self.new ≡ asked self.old }
@@ -111,7 +111,7 @@ pub trait Folder {
 
 /// Where bytes are put, as the standard output.
 pub trait Sink {
-    /// The bytes put so far, where they are told.
+    /// The bytes put so far, where they are known.
     ghost held: { Self → Option (List ℕ) };
 
     /// How many faults it has met.

@@ -1,4 +1,4 @@
--- A pass over words that are lent: what its workers did may be moved back, and is a pass of the kit from which they were moved out.
+-- A pass over words that are lent: what its workers did may be moved back, and is a pass of the pool from which they were moved out.
 use Rattle.std.proofs.Common.{◌≡◌, ℕ, List, ◌++◌, length, refl, sym, ap, ◌∙◌, subst}
 use Rattle.vt_outside.specs.declared.outside.File.{Ghosts as FileMeanings}
 use Rattle.vt_journal.specs.declared.changes.Change.{Change}
@@ -17,62 +17,62 @@ use Rattle.vt_word_workers.specs.Passes.{MapsRoot, IsJobFor, IsUntouched}
 use Rattle.vt_word_workers.specs.WordSamplers.{WordSampler}
 use Rattle.vt_word_workers.specs.declared.workers.WordStreamer.{WordStreamer}
 use Rattle.vt_word_workers.specs.SamplerTasks.{HasDrawn}
-use Rattle.vt_word_workers.specs.WordTasks.{HasFed}
+use Rattle.vt_word_workers.specs.WordTasks.{HasStreamedWords}
 use Rattle.vt_word_workers.specs.GivenPasses.{HasGiven}
 use Rattle.vt_word_workers.specs.HeldPasses.{IsHeldRow, AreHeldRows}
-use Rattle.vt_word_workers.specs.Kits.{KitView, kit_setup, kit_state, IsReadyKit, kit_rows}
-use Rattle.vt_word_workers.specs.KitPasses.{Begun, AreOut, MayFinish, KitRan, kit_before, kit_drawn}
-use Rattle.vt_pass.specs.WordLaws.{ran_after, begun, kit_back, same_kit}
+use Rattle.vt_word_workers.specs.WorkerPools.{WorkerPoolView, pool_setup, pool_state, IsReadyPool, pool_rows}
+use Rattle.vt_word_workers.specs.PoolPasses.{Begun, AreOut, MayFinish, PoolRan, pool_before, pool_drawn}
+use Rattle.vt_pass.specs.WordLaws.{ran_after, begun, pool_back, same_pool}
 use Rattle.vt_word_workers.specs.Noted.{AreNotedRows}
 
-module _ {F P : Type 0} (g : FileMeanings F) (filter : FilterMeanings P) (words : WordsValue) (q : Queues) (was b d : WordStreamer) (k l : KitView F) (job : Job)
+module _ {F P : Type 0} (g : FileMeanings F) (filter : FilterMeanings P) (words : WordsValue) (q : Queues) (was b d : WordStreamer) (k l : WorkerPoolView F) (job : Job)
     (a c : List (QueuedView F)) (e f : List WordSampler) (out : AreOut g q k l was.answers b.answers a e)
-    (streamer_is : b ≡ record was { answers = b.answers }) (ready : IsReadyKit g words q was k job.batch) (job_is : IsJobFor (kit_setup g words k) job)
+    (streamer_is : b ≡ record was { answers = b.answers }) (ready : IsReadyPool g words q was k job.batch) (job_is : IsJobFor (pool_setup g words k) job)
     (number : length c ≡ length a) (number_f : length f ≡ length e) (did_load : AllDid (HasLoaded g q) a c)
-    (did_draw : AllDid (HasDrawn filter words job.scene job.picture) e f) (did_stream : HasFed words q job.batch b d) where
+    (did_draw : AllDid (HasDrawn filter words job.scene job.picture) e f) (did_stream : HasStreamedWords words q job.batch b d) where
   pub lent_back : (z : Begun F) × MayFinish g filter words q l job c f d z
   lent_back = (
     begun g filter words q was b d k l job a c e f out streamer_is,
-    kit_back g filter words q was b d k l job a c e f out streamer_is ready job_is number number_f did_load did_draw did_stream,
+    pool_back g filter words q was b d k l job a c e f out streamer_is ready job_is number number_f did_load did_draw did_stream,
   )
 
-  pub lent_ran : (report : PassReport) (w : StreamerView) (m : KitView F)
-      → KitRan g filter words job report lent_back.0.streamer.streamer (kit_before l lent_back.0) w m → KitRan g filter words job report was.streamer k w m
+  pub lent_ran : (report : PassReport) (w : StreamerView) (m : WorkerPoolView F)
+      → PoolRan g filter words job report lent_back.0.streamer.streamer (pool_before l lent_back.0) w m → PoolRan g filter words job report was.streamer k w m
   unfolding lent_back begun
   lent_ran report w m done = record {
-    ran = ran_after (drawing_of filter) (kit_drawn filter m w) job (kit_state g words was.streamer.writer.journal k)
-        (kit_state g words b.streamer.writer.journal (kit_before l (begun g filter words q was b d k l job a c e f out streamer_is)))
-        (kit_state g words w.writer.journal m) (same_kit g filter words q was b d k l job a c e f out streamer_is) report done.ran;
+    ran = ran_after (drawing_of filter) (pool_drawn filter m w) job (pool_state g words was.streamer.writer.journal k)
+        (pool_state g words b.streamer.writer.journal (pool_before l (begun g filter words q was b d k l job a c e f out streamer_is)))
+        (pool_state g words w.writer.journal m) (same_pool g filter words q was b d k l job a c e f out streamer_is) report done.ran;
     held = subst (λ (x : WordStreamer). AreHeldRows x.streamer.writer w.writer report.rows.elements) streamer_is done.held;
     noted = subst (λ (x : WordStreamer). AreNotedRows filter m.shape m.depth x.streamer.writer w.writer job.scene.path job.picture
-        report.rows.elements (kit_rows m)) streamer_is done.noted;
+        report.rows.elements (pool_rows m)) streamer_is done.noted;
   }
 
-module _ {F : Type 0} (g : FileMeanings F) (words : WordsValue) (t : WordStreamer) (v : StreamerView) (k l m : KitView F)
+module _ {F : Type 0} (g : FileMeanings F) (words : WordsValue) (t : WordStreamer) (v : StreamerView) (k l m : WorkerPoolView F)
     (asked : l ≡ record k { round = l.round }) (rest : m ≡ record l { samplers = m.samplers }) (given : HasGiven t.streamer.writer v.writer) where
   journal : v.writer.journal ≡ t.streamer.writer.journal
   journal = ap (λ (x : WriterView). x.journal) given.rest
 
-  -- a kit that has asked and given its passes is the same but for what its pictures and its loaders use
+  -- a pool that has asked and given its passes is the same but for what its pictures and its loaders use
   given_is : m ≡ record k { samplers = m.samplers; round = l.round }
-  given_is = rest ∙ ap (λ (x : KitView F). record x { samplers = m.samplers }) asked
+  given_is = rest ∙ ap (λ (x : WorkerPoolView F). record x { samplers = m.samplers }) asked
 
-  untouched : IsUntouched (kit_state g words t.streamer.writer.journal k) (kit_state g words v.writer.journal m)
-  untouched = subst (λ (x : KitView F). IsUntouched (kit_state g words t.streamer.writer.journal k) (kit_state g words v.writer.journal x)) (sym given_is)
+  untouched : IsUntouched (pool_state g words t.streamer.writer.journal k) (pool_state g words v.writer.journal m)
+  untouched = subst (λ (x : WorkerPoolView F). IsUntouched (pool_state g words t.streamer.writer.journal k) (pool_state g words v.writer.journal x)) (sym given_is)
       (record { setup = refl; files = refl; journal = journal })
 
-  pub given_root : MapsRoot (kit_state g words t.streamer.writer.journal k) → MapsRoot (kit_state g words v.writer.journal m)
-  given_root root = subst (λ (x : KitView F). MapsRoot (kit_state g words v.writer.journal x)) (sym given_is)
-      (subst (λ (j : List Change). MapsRoot (kit_state g words j k)) (sym journal) root)
+  pub given_root : MapsRoot (pool_state g words t.streamer.writer.journal k) → MapsRoot (pool_state g words v.writer.journal m)
+  given_root root = subst (λ (x : WorkerPoolView F). MapsRoot (pool_state g words v.writer.journal x)) (sym given_is)
+      (subst (λ (j : List Change). MapsRoot (pool_state g words j k)) (sym journal) root)
 
-  pub given_job : (job : Job) → IsJobFor (kit_setup g words k) job → IsJobFor (kit_setup g words m) job
-  given_job job is = subst (λ (x : KitView F). IsJobFor (kit_setup g words x) job) (sym given_is) is
+  pub given_job : (job : Job) → IsJobFor (pool_setup g words k) job → IsJobFor (pool_setup g words m) job
+  given_job job is = subst (λ (x : WorkerPoolView F). IsJobFor (pool_setup g words x) job) (sym given_is) is
 
-  pub given_ran : {P : Type 0} (filter : FilterMeanings P) (job : Job) (report : PassReport) (w : StreamerView) (n : KitView F) → KitRan g filter words job report v m w n
-      → KitRan g filter words job report t.streamer k w n
+  pub given_ran : {P : Type 0} (filter : FilterMeanings P) (job : Job) (report : PassReport) (w : StreamerView) (n : WorkerPoolView F) → PoolRan g filter words job report v m w n
+      → PoolRan g filter words job report t.streamer k w n
   given_ran filter job report w n done = record {
-    ran = ran_after (drawing_of filter) (kit_drawn filter n w) job (kit_state g words t.streamer.writer.journal k) (kit_state g words v.writer.journal m)
-        (kit_state g words w.writer.journal n) untouched report done.ran;
+    ran = ran_after (drawing_of filter) (pool_drawn filter n w) job (pool_state g words t.streamer.writer.journal k) (pool_state g words v.writer.journal m)
+        (pool_state g words w.writer.journal n) untouched report done.ran;
     held = record {
       more = done.held.more;
       returned = done.held.returned ∙ ap (λ (x : WriterView). done.held.more ++ x.returned) given.rest;

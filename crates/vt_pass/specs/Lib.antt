@@ -1,5 +1,5 @@
 pub use Rattle.vt_word_workers.specs.DealtRows
-pub use Rattle.vt_word_workers.specs.Kits
+pub use Rattle.vt_word_workers.specs.WorkerPools
 pub use Rattle.vt_word_workers.specs.Samplers
 pub mod PassKits
 pub mod Placed

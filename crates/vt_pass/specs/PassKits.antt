@@ -1,4 +1,4 @@
--- A kit for words and a streamer that its caller holds.
+-- A pool for words and a streamer that its caller holds.
 use Rattle.std.specs.Prelude.{List}
 use Rattle.vt_outside.specs.declared.outside.File.{Ghosts as FileMeanings}
 use Rattle.vt_grace.specs.Values.{WordsValue}
@@ -8,16 +8,16 @@ use Rattle.vt_queue.specs.declared.queue.QueuePass.{QueuePass}
 use Rattle.vt_queue.specs.declared.items.Loaded.{Loaded}
 use Rattle.vt_word_workers.specs.LoadTypes.queued.Queues.{Queues}
 use Rattle.vt_word_workers.specs.RequestsTypes.report.StreamReport.{StreamReport}
-use Rattle.vt_word_workers.specs.Kits.{KitView, IsPreparedKit}
+use Rattle.vt_word_workers.specs.WorkerPools.{WorkerPoolView, IsPreparedPool}
 
 -- its queues, the pass by which the streamer takes results, what the streamer tells, and what else a pass uses
 pub record PassKitView (F : Type 0) : Type 0 where
   pub queues : Queues
   pub answers : QueuePass Loaded
   pub report : StreamReport
-  pub kit : KitView F
+  pub pool : WorkerPoolView F
 
--- the kit is prepared for a batch that this streamer of the words streams
+-- the pool is prepared for a batch that this streamer of the words streams
 abbrev pub IsPreparedFor : {F : Type 0} → FileMeanings F → WordsValue → StreamerView → PassKitView F → List Planned → Type 0
 IsPreparedFor g words v k batch =
-    IsPreparedKit g words k.queues (record { streamer = v; answers = k.answers; report = k.report }) k.kit batch
+    IsPreparedPool g words k.queues (record { streamer = v; answers = k.answers; report = k.report }) k.pool batch

@@ -8,7 +8,7 @@ mod pass_kit;
 mod place;
 mod prepare;
 
-pub use machine::{FilteredMachine, WordMachine};
+pub use machine::{WordMachine, WordMachineBy};
 pub use pass_kit::{PassKit, run_pass, run_pass_by};
 pub use place::place_page;
 pub use vt_word_workers::{LentShared, WordSampler, WordShared, WordStreamer};

@@ -4,11 +4,11 @@ ghost use Rattle.std.specs.Prelude.{◌≡◌, [], IsOk, IfOk, OnOk, OnErr};
 ghost use Rattle.vt_tiles.specs.Depths.{IsDepth};
 ghost use Rattle.vt_word_workers.specs.Crews.{IsCrew};
 ghost use Rattle.vt_word_workers.specs.Machines.{AreStoresFor};
-ghost use Rattle.vt_word_workers.specs.Kits.{IsMadeFor};
+ghost use Rattle.vt_word_workers.specs.WorkerPools.{IsMadeFor};
 ghost use Rattle.vt_word_workers.specs.Jobs.{job_of};
 ghost use Rattle.vt_word_workers.specs.Drawings.{drawing_of};
-ghost use Rattle.vt_word_workers.specs.KitPasses.{Begun, MayFinish};
-ghost use Rattle.vt_pass.specs.WordMachines.{WordView, word_state, IsIdleBy, IsReadyBy, drawn_by, IsMustered, WordFinishes, held_by};
+ghost use Rattle.vt_word_workers.specs.PoolPasses.{Begun, MayFinish};
+ghost use Rattle.vt_pass.specs.WordMachines.{WordView, word_state, IsIdleBy, IsReadyBy, drawn_by, IsDetached, WordFinishes, held_by};
 
 use crate::place::place_page;
 use crate::prepare::prepare_pass;
@@ -24,23 +24,23 @@ use vt_pages::Geometry;
 use vt_queue::{QueuePass, Request};
 use vt_tiles::Stores;
 use vt_word_workers::{
-    Batch, Counts, Crew, Filter, Nearest, PassMachine, PassReport, QueuedLoader, Shot, WordKit,
-    WordSampler, WordShared, WordStreamer, answered, new_parts,
+    Batch, Counts, Crew, Filter, Nearest, PassMachine, PassReport, QueuedLoader, Shot, WordSampler,
+    WordShared, WordStreamer, WorkerPool, answered, new_parts,
 };
 
 /// A machine that draws the rows of a picture by a filter, each under a version that it holds meanwhile, and streams the
 /// batch at the same time.
-pub struct FilteredMachine<F: File, P: Filter> {
+pub struct WordMachineBy<F: File, P: Filter> {
     shared: WordShared<P>,
     // It is out while a pass is run.
     streamer: Option<WordStreamer>,
-    kit: WordKit<F>,
+    pool: WorkerPool<F>,
 }
 
 /// The machine that draws each pixel of one texel.
-pub type WordMachine<F> = FilteredMachine<F, Nearest>;
+pub type WordMachine<F> = WordMachineBy<F, Nearest>;
 
-impl<F: File, P: Filter> Model for FilteredMachine<F, P> {
+impl<F: File, P: Filter> Model for WordMachineBy<F, P> {
     ghost use Rattle.vt_pass.specs.WordMachines.{WordView};
 
     ghost Value = { WordView F };
@@ -49,12 +49,12 @@ impl<F: File, P: Filter> Model for FilteredMachine<F, P> {
       words = m.shared.words;
       queues = m.shared.queues;
       streamer = m.streamer;
-      kit = m.kit;
+      pool = m.pool;
     } };
 }
 
-// The kit with the stores of a list, which it leaves empty. After a refusal the list has them all.
-fn kit_from<F: File>(
+// The pool with the stores of a list, which it leaves empty. After a refusal the list has them all.
+fn pool_from<F: File>(
     alloc: Global,
     geometry: &Geometry,
     path: &Path,
@@ -62,7 +62,7 @@ fn kit_from<F: File>(
     depth: u32,
     asks: QueuePass<Request>,
     stores: &mut Stores<F>,
-) -> Result<WordKit<F>, NoMemory>
+) -> Result<WorkerPool<F>, NoMemory>
     requires crew { IsCrew crew.now }
     requires depth { IsDepth depth }
     requires stores { AreStoresFor F.File geometry.now depth crew.now.loaders stores.old.elements }
@@ -72,8 +72,8 @@ fn kit_from<F: File>(
     ensures refused { OnErr result (stores.new.elements ≡ stores.old.elements) }
 {
     let held = mem::replace(stores, Items::new(alloc));
-    match WordKit::new(alloc, geometry, path, crew, depth, asks, held) {
-        Ok(kit) => Ok(kit),
+    match WorkerPool::new(alloc, geometry, path, crew, depth, asks, held) {
+        Ok(pool) => Ok(pool),
         Err((held, refusal)) => {
             mem::replace(stores, held).destroy_empty();
             Err(refusal)
@@ -81,7 +81,7 @@ fn kit_from<F: File>(
     }
 }
 
-impl<F: File + Send, P: Filter + Sync> PassMachine for FilteredMachine<F, P> {
+impl<F: File + Send, P: Filter + Sync> PassMachine for WordMachineBy<F, P> {
     ghost use Rattle.std.specs.Prelude.{true};
     ghost use Rattle.vt_tiles.specs.Format.{stored};
     ghost use Rattle.vt_pass.specs.WordLaws.{come_back, has_ended, none_refused};
@@ -108,22 +108,22 @@ impl<F: File + Send, P: Filter + Sync> PassMachine for FilteredMachine<F, P> {
 
     ghost state = { λ m. word_state F.File m };
 
-    ghost is_idle = { λ m. IsIdleBy F.File m.words m.streamer m.kit };
+    ghost is_idle = { λ m. IsIdleBy F.File m.words m.streamer m.pool };
 
-    ghost is_ready = { λ m batch. IsReadyBy F.File m.words m.queues m.streamer m.kit batch };
+    ghost is_ready = { λ m batch. IsReadyBy F.File m.words m.queues m.streamer m.pool batch };
 
-    ghost drawn = { λ m. drawn_by P.Filter m.kit m.streamer };
+    ghost drawn = { λ m. drawn_by P.Filter m.pool m.streamer };
 
     ghost refuses = { ⊥ };
 
-    ghost held = { λ m p job lines. held_by P.Filter m.streamer p.kit p.streamer job lines };
+    ghost held = { λ m p job lines. held_by P.Filter m.streamer p.pool p.streamer job lines };
 
     ghost lent = { λ m. record { words = m.words; queues = m.queues; filter = record {} } };
 
-    ghost detached = { λ m job n loaders samplers streamer. IsMustered F.File m n loaders samplers streamer };
+    ghost detached = { λ m job n loaders samplers streamer. IsDetached F.File m n loaders samplers streamer };
 
     ghost may_reattach = { λ n job loaders samplers streamer. (b : Begun F)
-        × MayFinish F.File P.Filter n.words n.queues n.kit job loaders samplers streamer b };
+        × MayFinish F.File P.Filter n.words n.queues n.pool job loaders samplers streamer b };
 
     ghost reattached = { λ n job loaders samplers streamer p result. IsOk result
         × WordFinishes F.File P.Filter job result n loaders samplers streamer p };
@@ -139,11 +139,11 @@ impl<F: File + Send, P: Filter + Sync> PassMachine for FilteredMachine<F, P> {
         stores: &mut Stores<Self::File>,
     ) -> Result<Self, NoMemory> {
         let (shared, own, asks) = new_parts::<P>(alloc, geometry, frames, crew.samplers)?;
-        let kit = kit_from(alloc, geometry, path, crew, depth, asks, stores)?;
-        Ok(FilteredMachine {
+        let pool = pool_from(alloc, geometry, path, crew, depth, asks, stores)?;
+        Ok(WordMachineBy {
             shared,
             streamer: Some(own),
-            kit,
+            pool,
         })
     }
 
@@ -166,7 +166,7 @@ impl<F: File + Send, P: Filter + Sync> PassMachine for FilteredMachine<F, P> {
         batch: &Batch,
     ) -> Result<(), NoMemory> {
         match &mut self.streamer {
-            Some(own) => prepare_pass(rt, &mut self.shared, own, &mut self.kit, batch),
+            Some(own) => prepare_pass(rt, &mut self.shared, own, &mut self.pool, batch),
             None => unreachable!(),
         }
     }
@@ -180,7 +180,7 @@ impl<F: File + Send, P: Filter + Sync> PassMachine for FilteredMachine<F, P> {
         match own {
             Some(mut own) => {
                 let (loaders, samplers) = self
-                    .kit
+                    .pool
                     .detach_workers(&self.shared.queues, &mut own.answers);
                 (loaders, samplers, own)
             }
@@ -202,13 +202,13 @@ impl<F: File + Send, P: Filter + Sync> PassMachine for FilteredMachine<F, P> {
         batch: &Batch,
         _gate: &G,
     ) -> Result<PassReport, NoMemory>
-        requires { (b : Begun F) × MayFinish F.File P.Filter self.old.words self.old.queues self.old.kit
+        requires { (b : Begun F) × MayFinish F.File P.Filter self.old.words self.old.queues self.old.pool
             (job_of shot.now batch.now.elements) loaders.elements samplers.elements streamer b }
         ensures { IsOk result
             × WordFinishes F.File P.Filter (job_of shot.now batch.now.elements) result
             self.old loaders.elements samplers.elements streamer self.new }
     {
-        let report = self.kit.finish::<P>(
+        let report = self.pool.finish::<P>(
             &self.shared.words,
             &self.shared.queues,
             loaders,
@@ -231,20 +231,20 @@ impl<F: File + Send, P: Filter + Sync> PassMachine for FilteredMachine<F, P> {
     }
 
     fn counts(&self) -> &Counts {
-        self.kit.counts()
+        self.pool.counts()
     }
 
     fn picture(&self, alloc: Global) -> Result<Vec<u8>, NoMemory> {
-        self.kit.picture(alloc)
+        self.pool.picture(alloc)
     }
 
     fn end<Rt: Threads + Wait + Sync>(self, _rt: &Rt) -> Stores<Self::File> {
-        let FilteredMachine {
+        let WordMachineBy {
             shared: _,
             streamer: _,
-            kit,
+            pool,
         } = self;
-        kit.end()
+        pool.end()
     }
 
     ghost shows_whole = { λ scene b m i x y limits store inside below_width below_height maps.

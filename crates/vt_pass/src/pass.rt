@@ -2,9 +2,9 @@
 
 ghost use Rattle.vt_word_workers.specs.Jobs.{job_of};
 ghost use Rattle.vt_word_workers.specs.Passes.{MapsRoot, IsJobFor};
-ghost use Rattle.vt_word_workers.specs.Kits.{kit_setup, kit_state, IsIdleKit, IsPreparedKit, IsReadyKit};
-ghost use Rattle.vt_word_workers.specs.KitPasses.{KitRan};
-ghost use Rattle.vt_word_workers.specs.RoundKits.{AreEmptied};
+ghost use Rattle.vt_word_workers.specs.WorkerPools.{pool_setup, pool_state, IsIdlePool, IsPreparedPool, IsReadyPool};
+ghost use Rattle.vt_word_workers.specs.PoolPasses.{PoolRan};
+ghost use Rattle.vt_word_workers.specs.RoundStocks.{AreEmptied};
 
 use std::marker::PhantomData;
 use std::sync::Wait;
@@ -12,13 +12,13 @@ use std::thread::Threads;
 use vt_grace::Words;
 use vt_outside::{File, Gate};
 use vt_word_workers::{
-    Batch, Filter, LentShared, PassReport, Queues, Shot, WordKit, WordStreamer, work_together,
+    Batch, Filter, LentShared, PassReport, Queues, Shot, WordStreamer, WorkerPool, work_together,
 };
 
 // Draws the picture of a shot by a filter and streams the batch, whose requests were put, at the same time. It may wait.
 fn draw_and_stream<Rt: Threads + Wait + Sync, F: File + Send, P: Filter + Sync, G: Gate + Sync>(
     rt: &Rt,
-    kit: &mut WordKit<F>,
+    pool: &mut WorkerPool<F>,
     words: &Words,
     queues: &Queues,
     own: &mut WordStreamer,
@@ -26,15 +26,15 @@ fn draw_and_stream<Rt: Threads + Wait + Sync, F: File + Send, P: Filter + Sync, 
     batch: &Batch,
     gate: &G,
 ) -> PassReport
-    requires ready { IsReadyKit F.File words.now queues.now own.old kit.old batch.now.elements }
-    requires root { MapsRoot (kit_state F.File words.now own.old.streamer.writer.journal kit.old) }
-    requires job { IsJobFor (kit_setup F.File words.now kit.old) (job_of shot.now batch.now.elements) }
-    ensures ran { KitRan F.File P.Filter words.now (job_of shot.now batch.now.elements) result own.old.streamer kit.old
-        own.new.streamer kit.new }
-    ensures idle { IsIdleKit F.File words.now own.new.streamer kit.new }
-    ensures emptied { AreEmptied queues.now kit.new.round.asks own.new.answers }
+    requires ready { IsReadyPool F.File words.now queues.now own.old pool.old batch.now.elements }
+    requires root { MapsRoot (pool_state F.File words.now own.old.streamer.writer.journal pool.old) }
+    requires job { IsJobFor (pool_setup F.File words.now pool.old) (job_of shot.now batch.now.elements) }
+    ensures ran { PoolRan F.File P.Filter words.now (job_of shot.now batch.now.elements) result own.old.streamer pool.old
+        own.new.streamer pool.new }
+    ensures idle { IsIdlePool F.File words.now own.new.streamer pool.new }
+    ensures emptied { AreEmptied queues.now pool.new.round.asks own.new.answers }
 {
-    let (mut loaders, mut samplers) = kit.detach_workers(queues, &mut own.answers);
+    let (mut loaders, mut samplers) = pool.detach_workers(queues, &mut own.answers);
     let shared = LentShared::<P> {
         words,
         queues,
@@ -50,7 +50,7 @@ fn draw_and_stream<Rt: Threads + Wait + Sync, F: File + Send, P: Filter + Sync, 
         batch.slice(),
         gate,
     );
-    kit.finish::<P>(
+    pool.finish::<P>(
         words,
         queues,
         loaders,
@@ -72,7 +72,7 @@ pub(crate) fn ask_and_run<
     G: Gate + Sync,
 >(
     rt: &Rt,
-    kit: &mut WordKit<F>,
+    pool: &mut WorkerPool<F>,
     words: &Words,
     queues: &Queues,
     own: &mut WordStreamer,
@@ -80,15 +80,15 @@ pub(crate) fn ask_and_run<
     batch: &Batch,
     gate: &G,
 ) -> PassReport
-    requires prepared { IsPreparedKit F.File words.now queues.now own.old kit.old batch.now.elements }
-    requires root { MapsRoot (kit_state F.File words.now own.old.streamer.writer.journal kit.old) }
-    requires job { IsJobFor (kit_setup F.File words.now kit.old) (job_of shot.now batch.now.elements) }
-    ensures ran { KitRan F.File P.Filter words.now (job_of shot.now batch.now.elements) result own.old.streamer kit.old
-        own.new.streamer kit.new }
-    ensures idle { IsIdleKit F.File words.now own.new.streamer kit.new }
-    ensures emptied { AreEmptied queues.now kit.new.round.asks own.new.answers }
+    requires prepared { IsPreparedPool F.File words.now queues.now own.old pool.old batch.now.elements }
+    requires root { MapsRoot (pool_state F.File words.now own.old.streamer.writer.journal pool.old) }
+    requires job { IsJobFor (pool_setup F.File words.now pool.old) (job_of shot.now batch.now.elements) }
+    ensures ran { PoolRan F.File P.Filter words.now (job_of shot.now batch.now.elements) result own.old.streamer pool.old
+        own.new.streamer pool.new }
+    ensures idle { IsIdlePool F.File words.now own.new.streamer pool.new }
+    ensures emptied { AreEmptied queues.now pool.new.round.asks own.new.answers }
 {
-    kit.ask(rt, queues, batch);
-    kit.give(words, &mut own.streamer);
-    draw_and_stream::<Rt, F, P, G>(rt, kit, words, queues, own, shot, batch, gate)
+    pool.ask(rt, queues, batch);
+    pool.give(words, &mut own.streamer);
+    draw_and_stream::<Rt, F, P, G>(rt, pool, words, queues, own, shot, batch, gate)
 }

@@ -4,12 +4,12 @@ ghost use Rattle.std.specs.Prelude.{◌≡◌, ◌<◌, ◌≤◌, None, OnOk, O
 ghost use Rattle.vt_pages.specs.Pages.{pages_of};
 ghost use Rattle.vt_journal.specs.Changes.{newest, IsFree, IsLegalNext};
 ghost use Rattle.vt_word_workers.specs.Crews.{last_start};
-ghost use Rattle.vt_word_workers.specs.TableViews.{IsTile, IsReady, IsWithin};
+ghost use Rattle.vt_word_workers.specs.TableViews.{IsTile, IsReady, IsTableChange};
 ghost use Rattle.vt_grace.specs.Banks.{MayFill};
 ghost use Rattle.vt_word_workers.specs.Banks.{HasPublished};
-ghost use Rattle.vt_word_workers.specs.Looks.{HasLooked};
-ghost use Rattle.vt_word_workers.specs.Views.{IsStreamerOf, table_of};
-ghost use Rattle.vt_word_workers.specs.Kits.{AreAllIn};
+ghost use Rattle.vt_word_workers.specs.Looks.{HasOnlyLooked};
+ghost use Rattle.vt_word_workers.specs.Views.{IsStreamerOf, streamer_table};
+ghost use Rattle.vt_word_workers.specs.WorkerPools.{AreAllIn};
 ghost use Rattle.vt_pass.specs.Placed.{HasPlaced};
 
 use vt_grace::Words;
@@ -25,7 +25,7 @@ fn free_at_once(words: &Words, streamer: &mut Streamer, frame: u32)
     requires free { IsFree (newest streamer.old.writer.journal) frame }
     ensures of { IsStreamerOf words.now streamer.new }
     ensures may { MayFill streamer.new.writer frame }
-    ensures looked { HasLooked streamer.old.writer streamer.new.writer }
+    ensures looked { HasOnlyLooked streamer.old.writer streamer.new.writer }
     ensures rest { streamer.new ≡ record streamer.old { writer = streamer.new.writer } }
 {
     match streamer.try_free(words, frame) {
@@ -39,9 +39,9 @@ fn publish_at_once(words: &Words, streamer: &mut Streamer, change: Change)
     requires of { IsStreamerOf words.now streamer.old }
     requires all_in { AreAllIn streamer.old }
     requires room { 1 ≤ streamer.old.spare }
-    requires within { IsWithin (table_of streamer.old) change }
+    requires within { IsTableChange (streamer_table streamer.old) change }
     requires legal { IsLegalNext streamer.old.shape (newest streamer.old.writer.journal) change }
-    requires ready { IsReady (table_of streamer.old) change }
+    requires ready { IsReady (streamer_table streamer.old) change }
     ensures of { IsStreamerOf words.now streamer.new }
     ensures published { HasPublished streamer.old.writer streamer.new.writer change }
     ensures shape { streamer.new.shape ≡ streamer.old.shape }

@@ -8,7 +8,7 @@ use Rattle.vt_outside.specs.declared.answers.OutsideError.{OutsideError}
 use Rattle.vt_outside.specs.Effects.{FolderState}
 use Rattle.vt_outside.specs.Expectations.{ExpectedFile, with_files, IsPart, AsksNone, Writes}
 use Rattle.vt_pictures.specs.Pictures.{expected_picture, expected_pictures}
-use Rattle.vt_outside.proofs.Writing.{asks_both, fails_later, no_files, part_later, told_then}
+use Rattle.vt_outside.proofs.Writing.{asks_both, fails_later, no_files, part_later, known_then}
 
 -- a folder whose first pictures were written
 pub record HasPictures (prefix : List ℕ) (file : ℕ → List ℕ) (count : ℕ) (before after : FolderState) : Type 0 where
@@ -29,7 +29,7 @@ pub more_pictures : (prefix : List ℕ) (file : ℕ → List ℕ) (count : ℕ) 
 more_pictures prefix file count before mid after h more = record {
   files = more.1
       ∙ ap (option_map (with_files (expected_picture prefix file count ∷ []))) h.files
-      ∙ sym (told_then (expected_pictures prefix file count) (expected_picture prefix file count ∷ []) before.files)
+      ∙ sym (known_then (expected_pictures prefix file count) (expected_picture prefix file count ∷ []) before.files)
       ∙ ap (λ (files : List ExpectedFile). option_map (with_files files) before.files) (sym (pictures_more prefix file count));
   asks = asks_both before mid after h.asks more.0;
 }

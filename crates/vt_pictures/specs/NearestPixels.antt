@@ -11,7 +11,7 @@ use Rattle.vt_journal.specs.Laws.{ReachesRoot, IsInside}
 use Rattle.vt_pages.proofs.Lines.{reaches_root}
 use Rattle.vt_draw.specs.Rows.{row_level, row_place}
 use Rattle.vt_draw.specs.declared.lookups.Found.{Found}
-use Rattle.vt_draw.specs.Lookups.{Note, IsFinest}
+use Rattle.vt_draw.specs.Lookups.{Note, IsFinestFound}
 use Rattle.vt_draw.specs.Shots.{wanted_page, IsDrawn}
 use Rattle.vt_draw.proofs.Places.{pixel_inside, place_inside, wanted_in_chain, wanted_line_covers}
 use Rattle.vt_journal.specs.Changes.{Table}
@@ -23,7 +23,7 @@ use Rattle.vt_pictures.specs.Evidence.{AreTrue}
 
 -- what was found for a page is the page that serves it
 module _ (s : Shape) (source : Source) (m : Table) (version : ℕ) (says : Note → Type 0) (p : ℕ) (found : Found) (limits : IsWithinLimits s)
-    (inside : p < pages_of s) (finest : IsFinest s version says p found) (are : AreTrue s source m version says) where
+    (inside : p < pages_of s) (finest : IsFinestFound s version says p found) (are : AreTrue s source m version says) where
   line : ReachesRoot s p
   line = let a = limits.least_tile in reaches_root s p (omega (arith, a)) limits.least_width limits.least_height inside
 

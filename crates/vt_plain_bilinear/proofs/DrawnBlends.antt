@@ -9,7 +9,7 @@ use Rattle.vt_blend.specs.declared.corners.Weights.{Weights}
 use Rattle.vt_blend.specs.declared.blends.Texels.{Texels}
 use Rattle.vt_blend.specs.Corners.{corners_of, weights_of}
 use Rattle.vt_blend.specs.Blends.{blended_word}
-use Rattle.vt_plain_bilinear.specs.Served.{AreServed, IsBlended, AreBlended, AreTexelsCounted}
+use Rattle.vt_plain_bilinear.specs.Served.{AreCornersServed, IsBlended, AreBlended, AreTexelsCounted}
 use Rattle.vt_plain_bilinear.proofs.Kept.{all_served_kept}
 
 blended_kept : (s : Shape) (d version : ℕ) (says later : Note → Type 0) (row : RowView) (x : ℕ) (bytes : List ℕ)
@@ -22,13 +22,13 @@ blended_kept s d version says later row x bytes said h = record {
 
 -- a pixel whose texels were served at its corners, and whose bytes are those of their blend
 pub blended_here : (s : Shape) (d version : ℕ) (says : Note → Type 0) (row : RowView) (x level word : ℕ) (at : Corners) (w : Weights) (t : Texels)
-    (bytes : List ℕ) → level ≡ row_level row → at ≡ corners_of row x → AreServed s version says level at t → w ≡ weights_of at
+    (bytes : List ℕ) → level ≡ row_level row → at ≡ corners_of row x → AreCornersServed s version says level at t → w ≡ weights_of at
     → word ≡ blended_word d w t → bytes ≡ word_bytes d word → IsBlended s d version says row x bytes
 blended_here s d version says row x level word at w t bytes k is served weighs blend shown = record {
   texels = t;
   served =
-      subst (λ (c : Corners). AreServed s version says (row_level row) c t) is
-      (subst (λ (i : ℕ). AreServed s version says i at t) k served);
+      subst (λ (c : Corners). AreCornersServed s version says (row_level row) c t) is
+      (subst (λ (i : ℕ). AreCornersServed s version says i at t) k served);
   shown =
       shown ∙ ap (word_bytes d) blend ∙ ap (λ (v : Weights). word_bytes d (blended_word d v t)) weighs
       ∙ ap (λ (c : Corners). word_bytes d (blended_word d (weights_of c) t)) is;

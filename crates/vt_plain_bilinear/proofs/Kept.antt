@@ -3,16 +3,16 @@ use Rattle.std.proofs.Common.{◌≡◌, ℕ, ◌∙◌, subst}
 use Rattle.vt_pages.specs.Shape.{Shape}
 use Rattle.vt_draw.specs.declared.lookups.Found.{Found}
 use Rattle.vt_pages.specs.Pages.{texel_page}
-use Rattle.vt_draw.specs.Lookups.{Note, WordNote, IsFinest}
+use Rattle.vt_draw.specs.Lookups.{Note, WordNote, IsFinestFound}
 use Rattle.vt_draw.proofs.DrawnPixels.{finest_kept}
 use Rattle.vt_plain_bilinear.specs.declared.served.Memo.{Memo}
 use Rattle.vt_blend.specs.declared.corners.Corners.{Corners}
 use Rattle.vt_blend.specs.declared.blends.Texels.{Texels}
-use Rattle.vt_plain_bilinear.specs.Served.{GoesOn, coarser_place, IsServed, AreServed, IsMemo}
+use Rattle.vt_plain_bilinear.specs.Served.{LookupGoesOn, coarser_place, IsServed, AreCornersServed, IsMemo}
 
 -- one call after the other
-pub goes_on : {A : Type 0} {s t u : Shape} {v w z : ℕ} {says tells adds : Note → Type 0} {a b c : A} → GoesOn s v says a t w tells b
-    → GoesOn t w tells b u z adds c → GoesOn s v says a u z adds c
+pub goes_on : {A : Type 0} {s t u : Shape} {v w z : ℕ} {says says_more adds : Note → Type 0} {a b c : A} → LookupGoesOn s v says a t w says_more b
+    → LookupGoesOn t w says_more b u z adds c → LookupGoesOn s v says a u z adds c
 goes_on first then = record {
   shape = then.shape ∙ first.shape;
   version = then.version ∙ first.version;
@@ -38,7 +38,7 @@ served_kept s version says later k x y word said h = record {
 }
 
 pub all_served_kept : (s : Shape) (version : ℕ) (says later : Note → Type 0) (k : ℕ) (at : Corners) (t : Texels)
-    → ((note : Note) → says note → later note) → AreServed s version says k at t → AreServed s version later k at t
+    → ((note : Note) → says note → later note) → AreCornersServed s version says k at t → AreCornersServed s version later k at t
 all_served_kept s version says later k at t said h = record {
   first = served_kept s version says later k at.column at.line t.first said h.first;
   second = served_kept s version says later k at.next_column at.line t.second said h.second;
@@ -47,11 +47,11 @@ all_served_kept s version says later k at t said h = record {
 }
 
 -- a word that was read of the page that was found stays served
-pub served_later : (s : Shape) (v w : ℕ) (says tells later : Note → Type 0) (k x y word : ℕ) (found : Found) → w ≡ v
-    → ((note : Note) → says note → later note) → ((note : Note) → tells note → later note) → IsFinest s v says (texel_page s k x y) found
-    → tells (WordNote w found.slot (coarser_place s k found.level x y) word) → IsServed s v later k x y word
-served_later s v w says tells later k x y word found same said told finest read = record {
+pub served_later : (s : Shape) (v w : ℕ) (says says_more later : Note → Type 0) (k x y word : ℕ) (found : Found) → w ≡ v
+    → ((note : Note) → says note → later note) → ((note : Note) → says_more note → later note) → IsFinestFound s v says (texel_page s k x y) found
+    → says_more (WordNote w found.slot (coarser_place s k found.level x y) word) → IsServed s v later k x y word
+served_later s v w says says_more later k x y word found same said known finest read = record {
   found = found;
   finest = finest_kept s v says later (texel_page s k x y) found said finest;
-  read = subst (λ (n : ℕ). later (WordNote n found.slot (coarser_place s k found.level x y) word)) same (told _ read);
+  read = subst (λ (n : ℕ). later (WordNote n found.slot (coarser_place s k found.level x y) word)) same (known _ read);
 }

@@ -10,7 +10,7 @@ use Rattle.vt_camera.specs.Rows.{row_level, row_spot, camera_spot}
 use Rattle.vt_camera.proofs.LevelLemmas.{level_of_within}
 use Rattle.vt_camera.proofs.Ground.{ring_place_below}
 use Rattle.vt_draw.specs.declared.lookups.Found.{Found}
-use Rattle.vt_draw.specs.Lookups.{Note, IsFinest}
+use Rattle.vt_draw.specs.Lookups.{Note, IsFinestFound}
 use Rattle.vt_draw.specs.Plain.{camera_at}
 use Rattle.vt_draw.specs.Shots.{shot_row}
 use Rattle.vt_blend.specs.Corners.{corners_of, AreInside}
@@ -40,7 +40,7 @@ pub record IsCovered (s : Shape) (k x y : ℕ) (found : Found) : Type 0 where
   pub page : texel_page s found.level (x / 2 ^ (found.level - k)) (y / 2 ^ (found.level - k)) ≡ found.page
 
 pub covered : (s : Shape) (version : ℕ) (says : Note → Type 0) (k x y : ℕ) (found : Found) → 1 ≤ s.tile → IsInside s k x y
-    → IsFinest s version says (texel_page s k x y) found → IsCovered s k x y found
+    → IsFinestFound s version says (texel_page s k x y) found → IsCovered s k x y found
 covered s version says k x y found some inside finest =
     let p : ℕ = texel_page s k x y in
     let j = found.level in

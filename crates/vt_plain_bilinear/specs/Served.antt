@@ -6,7 +6,7 @@ use Rattle.vt_pages.specs.Shape.{Shape}
 use Rattle.vt_pages.specs.Pages.{texel_page}
 use Rattle.vt_camera.specs.Rows.{RowView, row_level}
 use Rattle.vt_draw.specs.declared.lookups.Found.{Found}
-use Rattle.vt_draw.specs.Lookups.{Note, WordNote, IsFinest, place_in_tile}
+use Rattle.vt_draw.specs.Lookups.{Note, WordNote, IsFinestFound, place_in_tile}
 use Rattle.vt_blend.specs.declared.corners.Corners.{Corners}
 use Rattle.vt_blend.specs.declared.blends.Texels.{Texels}
 use Rattle.vt_blend.specs.declared.counting.Pages.{Pages}
@@ -16,10 +16,10 @@ use Rattle.vt_blend.specs.Corners.{corners_of, weights_of}
 use Rattle.vt_blend.specs.Blends.{blended_word}
 
 -- a look-up looks at the same pages and version as before, rests on the same, and says no less
-pub record GoesOn {A : Type 0} (s : Shape) (v : ℕ) (says : Note → Type 0) (a : A) (t : Shape) (w : ℕ) (tells : Note → Type 0) (b : A) : Type 0 where
+pub record LookupGoesOn {A : Type 0} (s : Shape) (v : ℕ) (says : Note → Type 0) (a : A) (t : Shape) (w : ℕ) (says_more : Note → Type 0) (b : A) : Type 0 where
   pub shape : t ≡ s
   pub version : w ≡ v
-  pub said : (note : Note) → says note → tells note
+  pub said : (note : Note) → says note → says_more note
   pub kept : b ≡ a
 
 -- the place in its tile of the texel of level j that covers the texel in a column and a row of level k
@@ -30,11 +30,11 @@ coarser_place s k j x y = place_in_tile s (x / 2 ^ (j - k)) (y / 2 ^ (j - k))
 -- (van Waveren 2012)
 pub record IsServed (s : Shape) (version : ℕ) (says : Note → Type 0) (k x y word : ℕ) : Type 0 where
   pub found : Found
-  pub finest : IsFinest s version says (texel_page s k x y) found
+  pub finest : IsFinestFound s version says (texel_page s k x y) found
   pub read : says (WordNote version found.slot (coarser_place s k found.level x y) word)
 
 -- by what is said, the words at the four corners of a place of a level are so
-pub record AreServed (s : Shape) (version : ℕ) (says : Note → Type 0) (k : ℕ) (at : Corners) (t : Texels) : Type 0 where
+pub record AreCornersServed (s : Shape) (version : ℕ) (says : Note → Type 0) (k : ℕ) (at : Corners) (t : Texels) : Type 0 where
   pub first : IsServed s version says k at.column at.line t.first
   pub second : IsServed s version says k at.next_column at.line t.second
   pub third : IsServed s version says k at.column at.next_line t.third
@@ -43,7 +43,7 @@ pub record AreServed (s : Shape) (version : ℕ) (says : Note → Type 0) (k : �
 -- by what is said, the bytes of pixel x of a row are those of the blend of four such words, at a depth
 pub record IsBlended (s : Shape) (d version : ℕ) (says : Note → Type 0) (row : RowView) (x : ℕ) (bytes : List ℕ) : Type 0 where
   pub texels : Texels
-  pub served : AreServed s version says (row_level row) (corners_of row x) texels
+  pub served : AreCornersServed s version says (row_level row) (corners_of row x) texels
   pub shown : bytes ≡ word_bytes d (blended_word d (weights_of (corners_of row x)) texels)
 
 -- by what is said, each of the first n pixels of a row is so, at a depth
@@ -75,7 +75,7 @@ pub record AreOne (p : Pages) : Type 0 where
 
 -- what was found for each of the pages that were asked for last
 pub record IsMemo (s : Shape) (version : ℕ) (says : Note → Type 0) (memo : Memo) : Type 0 where
-  pub first : IsFinest s version says memo.first.page memo.first.found
-  pub second : IsFinest s version says memo.second.page memo.second.found
-  pub third : IsFinest s version says memo.third.page memo.third.found
-  pub fourth : IsFinest s version says memo.fourth.page memo.fourth.found
+  pub first : IsFinestFound s version says memo.first.page memo.first.found
+  pub second : IsFinestFound s version says memo.second.page memo.second.found
+  pub third : IsFinestFound s version says memo.third.page memo.third.found
+  pub fourth : IsFinestFound s version says memo.fourth.page memo.fourth.found

@@ -7,7 +7,7 @@ ghost use Rattle.vt_pages.specs.Pages.{levels_of, pages_of, IsWithinLimits};
 ghost use Rattle.vt_draw.specs.Lookups.{Note};
 ghost use Rattle.vt_draw.specs.Shots.{paged_surface, shot_row, run_of};
 ghost use Rattle.vt_blend.specs.Corners.{AreInside};
-ghost use Rattle.vt_plain_bilinear.specs.Served.{GoesOn, AreServed, pages_about, IsMemo, AreBlended, AreTexelsCounted};
+ghost use Rattle.vt_plain_bilinear.specs.Served.{LookupGoesOn, AreCornersServed, pages_about, IsMemo, AreBlended, AreTexelsCounted};
 ghost use Rattle.vt_blend.specs.Counting.{times_among};
 
 use crate::served::{Memo, are_one, memo_of, pages_about, words_on};
@@ -80,12 +80,12 @@ fn take_texels<K: Lookup>(
     requires page { last < pages_of geometry.now }
     requires pages { length counts.old ≡ pages_of geometry.now }
     requires room { (p : ℕ) → p < length counts.old → slice_index counts.old p + run_of last run p + 4 < 2 ^ 32 }
-    ensures served { AreServed geometry.now (K.version lookup.old) (K.says lookup.new) level at.now result.0 }
+    ensures served { AreCornersServed geometry.now (K.version lookup.old) (K.says lookup.new) level at.now result.0 }
     ensures page { result.1 < pages_of geometry.now }
     ensures known { IsMemo geometry.now (K.version lookup.old) (K.says lookup.new) memo.new }
     ensures counted { (p : ℕ) → slice_index counts.new p + run_of result.1 result.2 p
         ≡ slice_index counts.old p + run_of last run p + times_among (pages_about geometry.now level at.now) p }
-    ensures on { GoesOn (K.shape lookup.old) (K.version lookup.old) (K.says lookup.old) (K.kept lookup.old)
+    ensures on { LookupGoesOn (K.shape lookup.old) (K.version lookup.old) (K.says lookup.old) (K.kept lookup.old)
         (K.shape lookup.new) (K.version lookup.new) (K.says lookup.new) (K.kept lookup.new) }
 {
     let pages = pages_about(geometry, level, at);
@@ -121,7 +121,7 @@ fn blend_pixels<K: Lookup, const DEPTH: u32>(
     requires shape { K.shape lookup.old ≡ geometry.now }
     ensures drawn { AreBlended geometry.now DEPTH (K.version lookup.new) (K.says lookup.new) row columns out.new }
     ensures counted { AreTexelsCounted geometry.now row columns counts.old counts.new }
-    ensures on { GoesOn (K.shape lookup.old) (K.version lookup.old) (K.says lookup.old) (K.kept lookup.old)
+    ensures on { LookupGoesOn (K.shape lookup.old) (K.version lookup.old) (K.says lookup.old) (K.kept lookup.old)
         (K.shape lookup.new) (K.version lookup.new) (K.says lookup.new) (K.kept lookup.new) }
 {
     let level = row.level();

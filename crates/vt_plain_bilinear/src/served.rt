@@ -5,9 +5,9 @@ ghost use Rattle.std.specs.Bool.{MatchBool};
 ghost use Rattle.vt_pages.specs.Pages.{pages_of, levels_of, texel_page, IsWithinLimits};
 ghost use Rattle.vt_pages.specs.Laws.{IsInside};
 ghost use Rattle.vt_definitions.specs.Sides.{side};
-ghost use Rattle.vt_draw.specs.Lookups.{WordNote, IsFinest};
+ghost use Rattle.vt_draw.specs.Lookups.{WordNote, IsFinestFound};
 ghost use Rattle.vt_blend.specs.Corners.{AreInside};
-ghost use Rattle.vt_plain_bilinear.specs.Served.{GoesOn, coarser_place, AreServed, pages_about, AreOne, IsMemo};
+ghost use Rattle.vt_plain_bilinear.specs.Served.{LookupGoesOn, coarser_place, AreCornersServed, pages_about, AreOne, IsMemo};
 
 use vt_blend::{Corners, Pages, Texels};
 use vt_draw::{Found, Lookup};
@@ -55,9 +55,9 @@ fn recall_older<K: Lookup>(lookup: &mut K, geometry: &Geometry, memo: &mut Memo,
     requires shape { K.shape lookup.old ≡ geometry.now }
     requires known { IsMemo geometry.now (K.version lookup.old) (K.says lookup.old) memo.old }
     requires inside { page < pages_of geometry.now }
-    ensures finest { IsFinest geometry.now (K.version lookup.old) (K.says lookup.new) page result }
+    ensures finest { IsFinestFound geometry.now (K.version lookup.old) (K.says lookup.new) page result }
     ensures known { IsMemo geometry.now (K.version lookup.old) (K.says lookup.new) memo.new }
-    ensures on { GoesOn (K.shape lookup.old) (K.version lookup.old) (K.says lookup.old) (K.kept lookup.old)
+    ensures on { LookupGoesOn (K.shape lookup.old) (K.version lookup.old) (K.says lookup.old) (K.kept lookup.old)
         (K.shape lookup.new) (K.version lookup.new) (K.says lookup.new) (K.kept lookup.new) }
 {
     if memo.second.page == page {
@@ -85,9 +85,9 @@ fn recall<K: Lookup>(lookup: &mut K, geometry: &Geometry, memo: &mut Memo, page:
     requires shape { K.shape lookup.old ≡ geometry.now }
     requires known { IsMemo geometry.now (K.version lookup.old) (K.says lookup.old) memo.old }
     requires inside { page < pages_of geometry.now }
-    ensures finest { IsFinest geometry.now (K.version lookup.old) (K.says lookup.new) page result }
+    ensures finest { IsFinestFound geometry.now (K.version lookup.old) (K.says lookup.new) page result }
     ensures known { IsMemo geometry.now (K.version lookup.old) (K.says lookup.new) memo.new }
-    ensures on { GoesOn (K.shape lookup.old) (K.version lookup.old) (K.says lookup.old) (K.kept lookup.old)
+    ensures on { LookupGoesOn (K.shape lookup.old) (K.version lookup.old) (K.says lookup.old) (K.kept lookup.old)
         (K.shape lookup.new) (K.version lookup.new) (K.says lookup.new) (K.kept lookup.new) }
 {
     if memo.first.page == page {
@@ -119,11 +119,11 @@ fn word_of_texel<K: Lookup>(
     requires limits { IsWithinLimits geometry.now }
     requires shape { K.shape lookup.old ≡ geometry.now }
     requires inside { IsInside geometry.now level column line }
-    requires finest { IsFinest geometry.now (K.version lookup.old) (K.says lookup.old)
+    requires finest { IsFinestFound geometry.now (K.version lookup.old) (K.says lookup.old)
         (texel_page geometry.now level column line) found.now }
     ensures read { K.says lookup.new (WordNote (K.version lookup.old) found.now.slot
         (coarser_place geometry.now level found.now.level column line) result) }
-    ensures on { GoesOn (K.shape lookup.old) (K.version lookup.old) (K.says lookup.old) (K.kept lookup.old)
+    ensures on { LookupGoesOn (K.shape lookup.old) (K.version lookup.old) (K.says lookup.old) (K.kept lookup.old)
         (K.shape lookup.new) (K.version lookup.new) (K.says lookup.new) (K.kept lookup.new) }
 {
     let up = found.level - level;
@@ -146,16 +146,16 @@ pub(crate) fn words_by<K: Lookup>(
     requires shape { K.shape lookup.old ≡ geometry.now }
     requires level { level < levels_of geometry.now }
     requires inside { AreInside (side geometry.now.width level) (side geometry.now.height level) at.now }
-    requires first { IsFinest geometry.now (K.version lookup.old) (K.says lookup.old)
+    requires first { IsFinestFound geometry.now (K.version lookup.old) (K.says lookup.old)
         (pages_about geometry.now level at.now).first first.now }
-    requires second { IsFinest geometry.now (K.version lookup.old) (K.says lookup.old)
+    requires second { IsFinestFound geometry.now (K.version lookup.old) (K.says lookup.old)
         (pages_about geometry.now level at.now).second second.now }
-    requires third { IsFinest geometry.now (K.version lookup.old) (K.says lookup.old)
+    requires third { IsFinestFound geometry.now (K.version lookup.old) (K.says lookup.old)
         (pages_about geometry.now level at.now).third third.now }
-    requires fourth { IsFinest geometry.now (K.version lookup.old) (K.says lookup.old)
+    requires fourth { IsFinestFound geometry.now (K.version lookup.old) (K.says lookup.old)
         (pages_about geometry.now level at.now).fourth fourth.now }
-    ensures served { AreServed geometry.now (K.version lookup.old) (K.says lookup.new) level at.now result }
-    ensures on { GoesOn (K.shape lookup.old) (K.version lookup.old) (K.says lookup.old) (K.kept lookup.old)
+    ensures served { AreCornersServed geometry.now (K.version lookup.old) (K.says lookup.new) level at.now result }
+    ensures on { LookupGoesOn (K.shape lookup.old) (K.version lookup.old) (K.says lookup.old) (K.kept lookup.old)
         (K.shape lookup.new) (K.version lookup.new) (K.says lookup.new) (K.kept lookup.new) }
 {
     Texels {
@@ -193,9 +193,9 @@ pub(crate) fn words_apart<K: Lookup>(
     requires second { pages.now.second < pages_of geometry.now }
     requires third { pages.now.third < pages_of geometry.now }
     requires fourth { pages.now.fourth < pages_of geometry.now }
-    ensures served { AreServed geometry.now (K.version lookup.old) (K.says lookup.new) level at.now result }
+    ensures served { AreCornersServed geometry.now (K.version lookup.old) (K.says lookup.new) level at.now result }
     ensures known { IsMemo geometry.now (K.version lookup.old) (K.says lookup.new) memo.new }
-    ensures on { GoesOn (K.shape lookup.old) (K.version lookup.old) (K.says lookup.old) (K.kept lookup.old)
+    ensures on { LookupGoesOn (K.shape lookup.old) (K.version lookup.old) (K.says lookup.old) (K.kept lookup.old)
         (K.shape lookup.new) (K.version lookup.new) (K.says lookup.new) (K.kept lookup.new) }
 {
     let first = recall(lookup, geometry, memo, pages.first);
@@ -227,9 +227,9 @@ pub(crate) fn words_on<K: Lookup>(
     requires second { pages.now.second < pages_of geometry.now }
     requires third { pages.now.third < pages_of geometry.now }
     requires fourth { pages.now.fourth < pages_of geometry.now }
-    ensures served { AreServed geometry.now (K.version lookup.old) (K.says lookup.new) level at.now result }
+    ensures served { AreCornersServed geometry.now (K.version lookup.old) (K.says lookup.new) level at.now result }
     ensures known { IsMemo geometry.now (K.version lookup.old) (K.says lookup.new) memo.new }
-    ensures on { GoesOn (K.shape lookup.old) (K.version lookup.old) (K.says lookup.old) (K.kept lookup.old)
+    ensures on { LookupGoesOn (K.shape lookup.old) (K.version lookup.old) (K.says lookup.old) (K.kept lookup.old)
         (K.shape lookup.new) (K.version lookup.new) (K.says lookup.new) (K.kept lookup.new) }
 {
     if are_one(pages) {
@@ -254,10 +254,10 @@ pub fn words_about<K: Lookup>(
     requires known { IsMemo geometry.now (K.version lookup.old) (K.says lookup.old) memo.old }
     requires level { level < levels_of geometry.now }
     requires inside { AreInside (side geometry.now.width level) (side geometry.now.height level) at.now }
-    ensures served { AreServed geometry.now (K.version lookup.old) (K.says lookup.new) level at.now result.0 }
+    ensures served { AreCornersServed geometry.now (K.version lookup.old) (K.says lookup.new) level at.now result.0 }
     ensures page { result.1 ≡ texel_page geometry.now level at.now.column at.now.line }
     ensures known { IsMemo geometry.now (K.version lookup.old) (K.says lookup.new) memo.new }
-    ensures on { GoesOn (K.shape lookup.old) (K.version lookup.old) (K.says lookup.old) (K.kept lookup.old)
+    ensures on { LookupGoesOn (K.shape lookup.old) (K.version lookup.old) (K.says lookup.old) (K.kept lookup.old)
         (K.shape lookup.new) (K.version lookup.new) (K.says lookup.new) (K.kept lookup.new) }
 {
     let pages = pages_about(geometry, level, at);
@@ -271,7 +271,7 @@ pub fn memo_of<K: Lookup>(lookup: &mut K, geometry: &Geometry, page: u32) -> Mem
     requires shape { K.shape lookup.old ≡ geometry.now }
     requires inside { page < pages_of geometry.now }
     ensures known { IsMemo geometry.now (K.version lookup.old) (K.says lookup.new) result }
-    ensures on { GoesOn (K.shape lookup.old) (K.version lookup.old) (K.says lookup.old) (K.kept lookup.old)
+    ensures on { LookupGoesOn (K.shape lookup.old) (K.version lookup.old) (K.says lookup.old) (K.kept lookup.old)
         (K.shape lookup.new) (K.version lookup.new) (K.says lookup.new) (K.kept lookup.new) }
 {
     let found = lookup.find(page);

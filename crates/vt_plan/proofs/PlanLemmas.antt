@@ -9,7 +9,7 @@ use Rattle.vt_feedback.specs.Shape.{Shape}
 use Rattle.vt_plan.specs.declared.batches.Planned.{Planned}
 use Rattle.vt_feedback.specs.Lookups.{next_finer_page}
 use Rattle.vt_plan.specs.PageLists.{is_in, each_once, with_page}
-use Rattle.vt_plan.specs.Missing.{is_mapped, missing_from}
+use Rattle.vt_plan.specs.Missing.{has_frame, missing_from}
 use Rattle.vt_plan.specs.Entries.{freed_at, taken_at, taken_with}
 use Rattle.vt_plan.proofs.ListLemmas.{each_once-append, is_in-each_once}
 
@@ -26,19 +26,19 @@ once_more xs p = each_once-append xs (p ∷ []) ∙ test (is_in xs p) refl where
       ∙ sym (ap (λ (b : Bool). cond b (each_once xs) (each_once xs ++ p ∷ [])) (is_in-each_once xs p ∙ e))
 
 pub missing-more : (s : Shape) (entries ps : List ℕ) (p : ℕ) → missing_from s entries (ps ++ p ∷ [])
-    ≡ cond (is_mapped entries p) (missing_from s entries ps) (with_page (missing_from s entries ps) (next_finer_page s (is_mapped entries) p))
+    ≡ cond (has_frame entries p) (missing_from s entries ps) (with_page (missing_from s entries ps) (next_finer_page s (has_frame entries) p))
 unfolding missing_from
 missing-more s entries ps p =
-    let f : ℕ → ℕ = next_finer_page s (is_mapped entries) in
-    let kept : List ℕ = filter (λ q. not (is_mapped entries q)) ps in
-    ap (λ (l : List ℕ). each_once (map (next_finer_page s (is_mapped entries)) l)) (filter-append (λ q. not (is_mapped entries q)) ps (p ∷ []))
-    ∙ test (is_mapped entries p) where
-      test : (b : Bool) → each_once (map (next_finer_page s (is_mapped entries)) (filter (λ q. not (is_mapped entries q)) ps ++ cond (not b) (p ∷ []) []))
-          ≡ cond b (each_once (map (next_finer_page s (is_mapped entries)) (filter (λ q. not (is_mapped entries q)) ps)))
-          (with_page (each_once (map (next_finer_page s (is_mapped entries)) (filter (λ q. not (is_mapped entries q)) ps))) (next_finer_page s (is_mapped entries) p))
-      test true = ap (λ (l : List ℕ). each_once (map (next_finer_page s (is_mapped entries)) l)) (append-nil (filter (λ q. not (is_mapped entries q)) ps))
-      test false = ap each_once (map-append (next_finer_page s (is_mapped entries)) (filter (λ q. not (is_mapped entries q)) ps) (p ∷ []))
-          ∙ once_more (map (next_finer_page s (is_mapped entries)) (filter (λ q. not (is_mapped entries q)) ps)) (next_finer_page s (is_mapped entries) p)
+    let f : ℕ → ℕ = next_finer_page s (has_frame entries) in
+    let kept : List ℕ = filter (λ q. not (has_frame entries q)) ps in
+    ap (λ (l : List ℕ). each_once (map (next_finer_page s (has_frame entries)) l)) (filter-append (λ q. not (has_frame entries q)) ps (p ∷ []))
+    ∙ test (has_frame entries p) where
+      test : (b : Bool) → each_once (map (next_finer_page s (has_frame entries)) (filter (λ q. not (has_frame entries q)) ps ++ cond (not b) (p ∷ []) []))
+          ≡ cond b (each_once (map (next_finer_page s (has_frame entries)) (filter (λ q. not (has_frame entries q)) ps)))
+          (with_page (each_once (map (next_finer_page s (has_frame entries)) (filter (λ q. not (has_frame entries q)) ps))) (next_finer_page s (has_frame entries) p))
+      test true = ap (λ (l : List ℕ). each_once (map (next_finer_page s (has_frame entries)) l)) (append-nil (filter (λ q. not (has_frame entries q)) ps))
+      test false = ap each_once (map-append (next_finer_page s (has_frame entries)) (filter (λ q. not (has_frame entries q)) ps) (p ∷ []))
+          ∙ once_more (map (next_finer_page s (has_frame entries)) (filter (λ q. not (has_frame entries q)) ps)) (next_finer_page s (has_frame entries) p)
 
 -- what is at a place of a list whose rest is known
 pub rest_at : (all : List ℕ) (k x : ℕ) (rest : List ℕ) → drop k all ≡ x ∷ rest → (k < length all) × (slice_index all k ≡ x) × (drop (k + 1) all ≡ rest)

@@ -7,7 +7,7 @@ use Rattle.vt_feedback.specs.Pages.{pages_of, IsWithinLimits}
 use Rattle.vt_feedback.specs.declared.Wanted.{Wanted}
 use Rattle.vt_feedback.specs.Wants.{pages_wanted}
 use Rattle.vt_plan.specs.PageLists.{is_in}
-use Rattle.vt_plan.specs.Missing.{is_mapped}
+use Rattle.vt_plan.specs.Missing.{has_frame}
 use Rattle.vt_plan.specs.Orders.{line_pages, put_first}
 
 -- the shape of the pages, the numbers of frames and of pinned pages, an entry for each page (0 for unmapped, else its frame and 1), and the
@@ -21,7 +21,7 @@ pub record RecencyView : Type 0 where
 
 -- a page below the pinned ones has a frame
 abbrev pub is_loose_below : List ℕ → ℕ → ℕ → Bool
-is_loose_below entries unpinned p = nat_lt p unpinned && is_mapped entries p
+is_loose_below entries unpinned p = nat_lt p unpinned && has_frame entries p
 
 -- the frame of a mapped page
 abbrev pub frame_of : List ℕ → ℕ → ℕ
@@ -33,7 +33,7 @@ is_pinned v p = nat_le (pages_of v.shape) (p + v.pinned)
 
 -- a page has a frame that may be given up
 abbrev pub is_loose : RecencyView → ℕ → Bool
-is_loose v p = is_mapped v.entries p && not (is_pinned v p)
+is_loose v p = has_frame v.entries p && not (is_pinned v p)
 
 -- a page has this frame
 abbrev pub is_held : List ℕ → ℕ → Bool
@@ -56,7 +56,7 @@ unfoldable pub pages_needed : RecencyView → List Wanted → ℕ
 pages_needed v wants = count_by (λ p. not (is_pinned v p)) (line_pages v.shape (pages_wanted wants))
 
 -- what holds of every table that is kept: the pinned pages are mapped, no frame is held twice, and the order has the unpinned mapped pages, each once
-pub record IsTable (v : RecencyView) : Type 0 where
+pub record IsRecencyTable (v : RecencyView) : Type 0 where
   pub limits : IsWithinLimits v.shape
   pub most_frames : v.frames ≤ most_frames
   pub some_pinned : 1 ≤ v.pinned
@@ -64,8 +64,8 @@ pub record IsTable (v : RecencyView) : Type 0 where
   pub enough_pages : v.pinned ≤ pages_of v.shape
   pub entries_for_all : length v.entries ≡ pages_of v.shape
   pub frames_inside : (p : ℕ) → slice_index v.entries p ≤ v.frames
-  pub pinned_mapped : (p : ℕ) → p < pages_of v.shape → is_pinned v p ≡ true → is_mapped v.entries p ≡ true
-  pub apart : (p q : ℕ) → is_mapped v.entries p ≡ true → slice_index v.entries p ≡ slice_index v.entries q → p ≡ q
+  pub pinned_mapped : (p : ℕ) → p < pages_of v.shape → is_pinned v p ≡ true → has_frame v.entries p ≡ true
+  pub apart : (p q : ℕ) → has_frame v.entries p ≡ true → slice_index v.entries p ≡ slice_index v.entries q → p ≡ q
   pub in_order : (p : ℕ) → is_in v.order p ≡ is_loose v p
   pub once : IsDistinct nat_eq v.order
 

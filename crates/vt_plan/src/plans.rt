@@ -7,7 +7,7 @@ ghost use Rattle.vt_feedback.specs.Pages.{IsWithinLimits, pages_of};
 ghost use Rattle.vt_feedback.specs.Wants.{pages_wanted};
 ghost use Rattle.vt_feedback.specs.Lookups.{next_finer_page as step_above};
 ghost use Rattle.vt_plan.specs.PageLists.{is_in, with_page};
-ghost use Rattle.vt_plan.specs.Missing.{is_mapped, missing_from};
+ghost use Rattle.vt_plan.specs.Missing.{has_frame, missing_from};
 ghost use Rattle.vt_plan.specs.Entries.{freed_at, taken_at, taken_with};
 
 use crate::batches::{Batch, Planned};
@@ -30,8 +30,8 @@ fn next_finer_page(geometry: &Geometry, entries: &[u32], page: u32) -> u32
     requires limits { IsWithinLimits geometry.now }
     requires inside { page < pages_of geometry.now }
     requires entries { length entries.now ≡ pages_of geometry.now }
-    requires unmapped { is_mapped entries.now page ≡ false }
-    ensures step { result ≡ step_above geometry.now (is_mapped entries.now) page }
+    requires unmapped { has_frame entries.now page ≡ false }
+    ensures step { result ≡ step_above geometry.now (has_frame entries.now) page }
     ensures inside { result < pages_of geometry.now }
 {
     match geometry.parent(page) {
@@ -56,8 +56,8 @@ fn ask(
     requires inside { page < pages_of geometry.now }
     requires entries { length entries.now ≡ pages_of geometry.now }
     ensures { OnOk result (missing.new.keys
-        ≡ (if is_mapped entries.now page then missing.old.keys
-        else with_page missing.old.keys (step_above geometry.now (is_mapped entries.now) page))) }
+        ≡ (if has_frame entries.now page then missing.old.keys
+        else with_page missing.old.keys (step_above geometry.now (has_frame entries.now) page))) }
 {
     let _limits = geometry.page_count();
     if entries[page as usize] > 0 {

@@ -9,8 +9,8 @@ use Rattle.vt_ppm.specs.declared.error.PpmError.{PpmError}
 use Rattle.vt_ppm.specs.declared.error.PpmError.TheVariants.{NoMemory}
 use Rattle.vt_ppm.specs.Format.{depth_of}
 use Rattle.vt_ppm.specs.Flaws.{IsLawfulHeader}
-use Rattle.vt_ppm.specs.Reads.{IsFrontPlace, IsRasterPlace, Gains, AreHeaderPlaces, AreImagePlaces, AsksHeader, AsksImage, ReadsFront, ReadsRaster, NotesRead, IsImagePrefix}
-use Rattle.vt_ppm.proofs.TellingFiles.{header_told}
+use Rattle.vt_ppm.specs.Reads.{IsFrontPlace, IsRasterPlace, Gains, AreHeaderPlaces, AreImagePlaces, AsksPpmHeader, AsksImage, ReadsFront, ReadsRaster, NotesRead, IsImagePrefix}
+use Rattle.vt_ppm.proofs.KnownFiles.{header_known}
 
 gains_nothing : (o n : Option (List Place)) → n ≡ o → Gains o n []
 gains_nothing None n e = e
@@ -22,16 +22,16 @@ gains_both (Some held) p n front raster e f =
     f ∙ ap (option_map (λ held. held ++ (raster ∷ []))) e ∙ ap Some (append_assoc held (front ∷ []) (raster ∷ []))
 
 -- the front is asked for
-module _ (t : Option (List ℕ)) (o p n : Option (List Place)) (len count : ℕ) (same : p ≡ o) (told : IfSome t (λ b. len ≡ length b))
+module _ (t : Option (List ℕ)) (o p n : Option (List Place)) (len count : ℕ) (same : p ≡ o) (known : IfSome t (λ b. len ≡ length b))
     (is : count ≡ min len header_limit) where
   front_place : (place : Place) → place.at ≡ 0 → place.len ≡ count → IsFrontPlace t place
-  front_place place from e = record { from = from; few = omega (arith, e, is); within = inside t told }
+  front_place place from e = record { from = from; few = omega (arith, e, is); within = inside t known }
     where
       inside : (t : Option (List ℕ)) → IfSome t (λ b. len ≡ length b) → IfSome t (λ b. place.len ≤ length b)
       inside None h = tt
       inside (Some b) h = omega (arith, h, e, is)
 
-  pub asks_front : {T : Type 0} (r : Result T PpmError) → NotesRead r 0 count p n → AsksHeader t o n
+  pub asks_front : {T : Type 0} (r : Result T PpmError) → NotesRead r 0 count p n → AsksPpmHeader t o n
   asks_front (Ok v) e = record {
     places = record { at = 0; len = count; failed = false } ∷ [];
     gained = e ∙ ap (option_map (noted 0 count false)) same;
@@ -61,7 +61,7 @@ module _ (t : Option (List ℕ)) (o p n : Option (List Place)) (len r w h m want
     width = w;
     height = h;
     maximum = m;
-    behind = subst (λ k. IfSome t (λ b. IsLawfulHeader most_read_side b k w h m)) (sym ea) (header_told most_read_side t len bytes is r w h m header);
+    behind = subst (λ k. IfSome t (λ b. IsLawfulHeader most_read_side b k w h m)) (sym ea) (header_known most_read_side t len bytes is r w h m header);
     whole = el ∙ whole;
     within = ends t is;
   }
@@ -98,20 +98,20 @@ module _ (t : Option (List ℕ)) (o p n : Option (List Place)) (len r w h m want
   }
 
 -- nothing is asked for
-pub asks_nothing : (t : Option (List ℕ)) (o n : Option (List Place)) → n ≡ o → AsksHeader t o n
+pub asks_nothing : (t : Option (List ℕ)) (o n : Option (List Place)) → n ≡ o → AsksPpmHeader t o n
 asks_nothing t o n same = record { places = []; gained = gains_nothing o n same; each = tt }
 
 -- the front lies in the file
 pub front_inside : (t u : Option (List ℕ)) (len count : ℕ) → u ≡ t → IfSome t (λ b. len ≡ length b) → count ≡ min len header_limit
     → IfSome u (λ b. 0 + count ≤ length b)
-front_inside t u len count same told is = subst (λ o. IfSome o (λ b. 0 + count ≤ length b)) (sym same) (inside t told)
+front_inside t u len count same known is = subst (λ o. IfSome o (λ b. 0 + count ≤ length b)) (sym same) (inside t known)
   where
     inside : (o : Option (List ℕ)) → IfSome o (λ b. len ≡ length b) → IfSome o (λ b. 0 + count ≤ length b)
     inside None h = tt
     inside (Some b) h = omega (arith, h, is)
 
 -- what is asked for a header is so for an image
-pub asks_header_only : (t : Option (List ℕ)) (o n : Option (List Place)) → AsksHeader t o n → AsksImage t o n
+pub asks_header_only : (t : Option (List ℕ)) (o n : Option (List Place)) → AsksPpmHeader t o n → AsksImage t o n
 asks_header_only t o n asks = record { places = asks.places; gained = asks.gained; each = of asks.places asks.each }
   where
     of : (places : List Place) → AreHeaderPlaces t places → AreImagePlaces t places

@@ -189,11 +189,11 @@ space_breaks [] black = record {
 }
 space_breaks (c ∷ cs) black = record {
   within = omega arith;
-  none = λ g. tells g.next.space cs g.rest (g.spelt ∙ ap (λ ys. ys ++ g.rest) g.next.spelt) g.next.white;
+  none = λ g. clashes g.next.space cs g.rest (g.spelt ∙ ap (λ ys. ys ++ g.rest) g.next.spelt) g.next.white;
   rest = codes " ";
   front = record { space = 32; spelt = refl; white = refl };
-  breaks = inr (omega arith, λ rest s. tells s.space rest [] s.spelt s.white);
+  breaks = inr (omega arith, λ rest s. clashes s.space rest [] s.spelt s.white);
 }
   where
-    tells : (d : ℕ) (xs ys : List ℕ) → c ∷ xs ≡ d ∷ ys → is_white d ≡ true → ⊥
-    tells d xs ys e white = let same : c ≡ d = cc in never_both (is_white c) (ap is_white same ∙ white) (black (omega arith))
+    clashes : (d : ℕ) (xs ys : List ℕ) → c ∷ xs ≡ d ∷ ys → is_white d ≡ true → ⊥
+    clashes d xs ys e white = let same : c ≡ d = cc in never_both (is_white c) (ap is_white same ∙ white) (black (omega arith))

@@ -13,7 +13,7 @@ use Rattle.vt_ppm.specs.declared.error.PpmError.TheVariants.{BadMagic, BadHeader
 use Rattle.vt_ppm.specs.declared.header.Header.{Header}
 use Rattle.vt_ppm.specs.Format.{depth_of}
 use Rattle.vt_ppm.proofs.SampleValues.{by_depth, depth_is}
-use Rattle.vt_ppm.specs.Strips.{IsTextureHeader, IsRowsPlace, GainsRows, HasSamplesIfTold, AreRowsUpTo, RowsAsked, ChecksRows, ChecksPieces, PiecesAsked, row_length, row_start, piece_rows, pieces_of, piece_count, piece_place, piece_places}
+use Rattle.vt_ppm.specs.Strips.{IsTextureHeader, IsRowsPlace, GainsRows, HasSamplesIfKnown, AreRowsUpTo, RowsAsked, ChecksRows, ChecksPieces, RasterPiecesAsked, row_length, row_start, piece_rows, pieces_of, raster_piece_count, raster_piece_place, raster_piece_places}
 
 -- so many rows from one on are a piece, of so many rows in pieces of so many
 pub record IsPieceOf (step rows i y count : ℕ) : Type 0 where
@@ -55,14 +55,14 @@ all_done h step end i es some ee ei =
     ap (λ n. min (n * piece_rows h) h.height) (ei ∙ ee) ∙ all_rows (piece_rows h) h.height (subst (λ n. 1 ≤ n) es some)
 
 -- before the first piece no rows are done, and none were asked
-pub none_done : (told : Option (List ℕ)) (h : Header) → IfSome told (λ b. AreRowsUpTo h b (min (0 * piece_rows h) h.height))
+pub none_done : (known : Option (List ℕ)) (h : Header) → IfSome known (λ b. AreRowsUpTo h b (min (0 * piece_rows h) h.height))
 none_done None h = tt
 none_done (Some b) h =
     let none : min (0 * piece_rows h) h.height ≡ 0 = omega arith in
     let few : 3 * (h.width * min (0 * piece_rows h) h.height) ≡ 0 = ap (λ n. 3 * (h.width * n)) none ∙ omega arith in
     λ i below. absurd (omega (arith, few, below))
 
-pub none_asked : (h : Header) (a : Option (List Place)) → PiecesAsked h 0 a a
+pub none_asked : (h : Header) (a : Option (List Place)) → RasterPiecesAsked h 0 a a
 none_asked h None = refl
 none_asked h (Some places) = ap Some (sym (append-nil places))
 
@@ -79,24 +79,24 @@ piece_cut h step row count rest buffer room eb es er ec e =
     length-take-le (count * row) buffer (subst (λ n. count * row ≤ n) (sym eb) (piece_room h step row count rest room es er ec e))
 
 -- one piece more was asked
-module _ (h : Header) (i y count : ℕ) (a0 a1 a2 : Option (List Place)) (before : PiecesAsked h i a0 a1) (p : IsPieceOf (piece_rows h) h.height i y count) where
+module _ (h : Header) (i y count : ℕ) (a0 a1 a2 : Option (List Place)) (before : RasterPiecesAsked h i a0 a1) (p : IsPieceOf (piece_rows h) h.height i y count) where
   next_asked : (failed : Bool) → RowsAsked h y count failed a1 a2
-      → a2 ≡ option_map (λ places. places ++ (piece_places h i ++ piece_place h failed i ∷ [])) a0
+      → a2 ≡ option_map (λ places. places ++ (raster_piece_places h i ++ raster_piece_place h failed i ∷ [])) a0
   next_asked failed one =
       one ∙ ap (λ n. option_map (noted (row_start h n) (count * row_length h) failed) a1) p.begins
       ∙ ap (λ n. option_map (noted (row_start h (i * piece_rows h)) (n * row_length h) failed) a1) p.counts
-      ∙ ap (option_map (noted (row_start h (i * piece_rows h)) (piece_count h i * row_length h) failed)) before
+      ∙ ap (option_map (noted (row_start h (i * piece_rows h)) (raster_piece_count h i * row_length h) failed)) before
       ∙ joined a0
     where
-      joined : (a : Option (List Place)) → option_map (noted (row_start h (i * piece_rows h)) (piece_count h i * row_length h) failed)
-          (option_map (λ places. places ++ piece_places h i) a)
-          ≡ option_map (λ places. places ++ (piece_places h i ++ piece_place h failed i ∷ [])) a
+      joined : (a : Option (List Place)) → option_map (noted (row_start h (i * piece_rows h)) (raster_piece_count h i * row_length h) failed)
+          (option_map (λ places. places ++ raster_piece_places h i) a)
+          ≡ option_map (λ places. places ++ (raster_piece_places h i ++ raster_piece_place h failed i ∷ [])) a
       joined None = refl
-      joined (Some places) = ap Some (append_assoc places (piece_places h i) (piece_place h failed i ∷ []))
+      joined (Some places) = ap Some (append_assoc places (raster_piece_places h i) (raster_piece_place h failed i ∷ []))
 
-  pub more_asked : RowsAsked h y count false a1 a2 → PiecesAsked h (i + 1) a0 a2
+  pub more_asked : RowsAsked h y count false a1 a2 → RasterPiecesAsked h (i + 1) a0 a2
   more_asked one = next_asked false one
-      ∙ ap (λ l. option_map (λ places. places ++ l) a0) (sym (map-range_with_len_more (piece_place h false) 0 i i (omega arith)))
+      ∙ ap (λ l. option_map (λ places. places ++ l) a0) (sym (map-range_with_len_more (raster_piece_place h false) 0 i i (omega arith)))
 
   pub last_asked : (e : PpmError) → ChecksRows h y count {T = Unit {0}} (Err e) a1 a2 → ChecksPieces h {T = Unit {0}} (Err e) a0 a2
   last_asked BadMagic none = none
@@ -121,26 +121,26 @@ found_next P Q o n e before next = found o before (subst (λ t. IfSome t (λ b. 
     found None p q = tt
     found (Some b) p q = q p
 
-pub samples_told : (told : Option (List ℕ)) (h : Header) (k : ℕ) → k ≡ h.height → IfSome told (λ b. AreRowsUpTo h b k) → HasSamplesIfTold told h
-samples_told told h k e few = record { each = λ b same. subst (λ n. AreRowsUpTo h b n) e (subst (λ t. IfSome t (λ b. AreRowsUpTo h b k)) same few) }
+pub samples_known : (known : Option (List ℕ)) (h : Header) (k : ℕ) → k ≡ h.height → IfSome known (λ b. AreRowsUpTo h b k) → HasSamplesIfKnown known h
+samples_known known h k e few = record { each = λ b same. subst (λ n. AreRowsUpTo h b n) e (subst (λ t. IfSome t (λ b. AreRowsUpTo h b k)) same few) }
 
 -- a piece is rows of the raster
-piece_of_rows : (h : Header) (failed : Bool) (i : ℕ) → i < pieces_of h → 1 ≤ piece_rows h → IsRowsPlace h (piece_place h failed i)
+piece_of_rows : (h : Header) (failed : Bool) (i : ℕ) → i < pieces_of h → 1 ≤ piece_rows h → IsRowsPlace h (raster_piece_place h failed i)
 piece_of_rows h failed i below some =
-    let p = piece_numbers (piece_rows h) h.height i (i * piece_rows h) (piece_count h i) some below refl refl in
-    record { y = i * piece_rows h; count = piece_count h i; inside = p.inside; begins = refl; whole = refl }
+    let p = piece_numbers (piece_rows h) h.height i (i * piece_rows h) (raster_piece_count h i) some below refl refl in
+    record { y = i * piece_rows h; count = raster_piece_count h i; inside = p.inside; begins = refl; whole = refl }
 
-pieces_of_rows : (h : Header) (n : ℕ) → n ≤ pieces_of h → 1 ≤ piece_rows h → All (IsRowsPlace h) (piece_places h n)
+pieces_of_rows : (h : Header) (n : ℕ) → n ≤ pieces_of h → 1 ≤ piece_rows h → All (IsRowsPlace h) (raster_piece_places h n)
 pieces_of_rows h zero few some = All-nil (IsRowsPlace h)
 pieces_of_rows h (suc n) few some =
     let next : n + 1 ≡ suc n = omega arith in
-    subst (λ k. All (IsRowsPlace h) (piece_places h k)) next (subst (All (IsRowsPlace h))
-    (sym (map-range_with_len_more (piece_place h false) 0 n n (omega arith)))
-    (All-append (IsRowsPlace h) (piece_places h n) (piece_place h false n ∷ []) (pieces_of_rows h n (omega arith) some)
-    (All-cons (IsRowsPlace h) (piece_place h false n) [] (piece_of_rows h false n (omega arith) some) (All-nil (IsRowsPlace h)))))
+    subst (λ k. All (IsRowsPlace h) (raster_piece_places h k)) next (subst (All (IsRowsPlace h))
+    (sym (map-range_with_len_more (raster_piece_place h false) 0 n n (omega arith)))
+    (All-append (IsRowsPlace h) (raster_piece_places h n) (raster_piece_place h false n ∷ []) (pieces_of_rows h n (omega arith) some)
+    (All-cons (IsRowsPlace h) (raster_piece_place h false n) [] (piece_of_rows h false n (omega arith) some) (All-nil (IsRowsPlace h)))))
 
-pub front_gains : (h : Header) (n : ℕ) (a0 a1 : Option (List Place)) → n ≤ pieces_of h → 1 ≤ piece_rows h → PiecesAsked h n a0 a1 → GainsRows h a0 a1
-front_gains h n a0 a1 few some asked = record { places = piece_places h n; gained = asked; each = pieces_of_rows h n few some }
+pub front_gains : (h : Header) (n : ℕ) (a0 a1 : Option (List Place)) → n ≤ pieces_of h → 1 ≤ piece_rows h → RasterPiecesAsked h n a0 a1 → GainsRows h a0 a1
+front_gains h n a0 a1 few some asked = record { places = raster_piece_places h n; gained = asked; each = pieces_of_rows h n few some }
 
 -- looking a raster over asks for places of its rows
 pub check_gains : (h : Header) {T : Type 0} (r : Result T PpmError) (a0 a1 : Option (List Place)) → 1 ≤ piece_rows h → ChecksPieces h r a0 a1
@@ -148,11 +148,11 @@ pub check_gains : (h : Header) {T : Type 0} (r : Result T PpmError) (a0 a1 : Opt
 check_gains h (Ok v) a0 a1 some asked = front_gains h (pieces_of h) a0 a1 (omega arith) some asked
 check_gains h (Err (SampleOver at)) a0 a1 some asked = front_gains h (asked.0 + 1) a0 a1 (omega (arith, asked.1)) some asked.3
 check_gains h (Err Failed) a0 a1 some asked = record {
-  places = piece_places h asked.0 ++ piece_place h true asked.0 ∷ [];
+  places = raster_piece_places h asked.0 ++ raster_piece_place h true asked.0 ∷ [];
   gained = asked.2;
-  each = All-append (IsRowsPlace h) (piece_places h asked.0) (piece_place h true asked.0 ∷ [])
+  each = All-append (IsRowsPlace h) (raster_piece_places h asked.0) (raster_piece_place h true asked.0 ∷ [])
       (pieces_of_rows h asked.0 (omega (arith, asked.1)) some)
-      (All-cons (IsRowsPlace h) (piece_place h true asked.0) [] (piece_of_rows h true asked.0 asked.1 some) (All-nil (IsRowsPlace h)));
+      (All-cons (IsRowsPlace h) (raster_piece_place h true asked.0) [] (piece_of_rows h true asked.0 asked.1 some) (All-nil (IsRowsPlace h)));
 }
 check_gains h (Err BadMagic) a0 a1 some none = absurd none
 check_gains h (Err (BadHeader at)) a0 a1 some none = absurd none

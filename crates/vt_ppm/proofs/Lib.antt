@@ -2,7 +2,7 @@ pub use Rattle.vt_definitions.proofs.Levels
 pub use Rattle.vt_definitions.proofs.TexelWords
 pub use Rattle.vt_definitions.proofs.Words
 pub use Rattle.vt_outside.proofs.Refusing as OutsideRefusing
-pub use Rattle.vt_outside.proofs.Untold
+pub use Rattle.vt_outside.proofs.UnknownContents
 pub mod Gaps
 pub mod Headers
 pub mod Runs
@@ -12,7 +12,7 @@ pub mod HeaderFields
 pub mod SampleValues
 pub mod SampleParts
 pub mod Rasters
-pub mod TellingFiles
+pub mod KnownFiles
 pub mod ImageLaws
 pub mod FlawLaws
 pub mod WrittenPictures

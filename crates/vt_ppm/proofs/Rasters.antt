@@ -100,8 +100,8 @@ module _ (most : ℕ) (b head : List ℕ) (e : head ≡ take 65536 b) where
 
 -- the first bytes, as many as a header may have
 pub head_is : (b head : List ℕ) (n : ℕ) → n ≡ length b → head ≡ take (min n 65536) b → head ≡ take 65536 b
-head_is b head n told e =
-    let swap : min n 65536 ≡ min 65536 (length b) = omega (arith, told) in
+head_is b head n known e =
+    let swap : min n 65536 ≡ min 65536 (length b) = omega (arith, known) in
     e ∙ ap (λ k. take k b) swap ∙ take_min 65536 b
 
 -- a header and the raster behind it

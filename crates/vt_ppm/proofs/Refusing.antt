@@ -6,7 +6,7 @@ use Rattle.vt_ppm.specs.declared.error.PpmError.{PpmError}
 use Rattle.vt_ppm.specs.declared.error.PpmError.TheVariants.{BadMagic, BadHeader, BadSize, BadMaximum, Truncated, SampleOver, Failed, NoMemory}
 use Rattle.vt_ppm.specs.Flaws.{IsFlawUpTo}
 use Rattle.vt_ppm.specs.Reads.{AnswersOfHeader, AnswersOfImage, NotesRead, ReadsFront}
-use Rattle.vt_ppm.specs.Refusals.{IsOutsideRefusal, IsRasterRefusal, IsSampleRefusal}
+use Rattle.vt_ppm.specs.Refusals.{IsPpmOutsideRefusal, IsRasterRefusal, IsSampleRefusal}
 
 -- a fault is that of the call
 pub fault_handed_on : {T U : Type 0} (q : Result U PpmError) (e : PpmError) (P : Type 0) → IsErrAnd q (λ x. x ≡ e)
@@ -20,22 +20,22 @@ no_fault (Ok x) P is failed = absurd is
 no_fault (Err x) P is failed = let no : ⊥ = cc in absurd no
 
 -- an answer about a header is one whatever is made of the header
-pub answered : (T U : Type 0) (e : PpmError) (told : Option (List ℕ)) (before after : Option (List Place))
-    → AnswersOfHeader {T = T} (Err e) told before after → AnswersOfHeader {T = U} (Err e) told before after
-answered T U BadMagic told before after is = is
-answered T U (BadHeader at) told before after is = is
-answered T U BadSize told before after is = is
-answered T U BadMaximum told before after is = is
-answered T U (Truncated want have) told before after is = is
-answered T U (SampleOver at) told before after is = is
-answered T U Failed told before after is = is
-answered T U NoMemory told before after is = is
+pub answered : (T U : Type 0) (e : PpmError) (known : Option (List ℕ)) (before after : Option (List Place))
+    → AnswersOfHeader {T = T} (Err e) known before after → AnswersOfHeader {T = U} (Err e) known before after
+answered T U BadMagic known before after is = is
+answered T U (BadHeader at) known before after is = is
+answered T U BadSize known before after is = is
+answered T U BadMaximum known before after is = is
+answered T U (Truncated want have) known before after is = is
+answered T U (SampleOver at) known before after is = is
+answered T U Failed known before after is = is
+answered T U NoMemory known before after is = is
 
-pub answer_handed_on : (T : Type 0) {U : Type 0} (q : Result U PpmError) (e : PpmError) (told : Option (List ℕ)) (before after : Option (List Place))
-    → IsErrAnd q (λ x. x ≡ e) → AnswersOfHeader {T = T} (Err e) told before after → AnswersOfHeader q told before after
-answer_handed_on T (Ok x) e told before after is so = absurd is
-answer_handed_on T {U} (Err x) e told before after is so =
-    subst (λ y. AnswersOfHeader {T = U} (Err y) told before after) (sym is) (answered T U e told before after so)
+pub answer_handed_on : (T : Type 0) {U : Type 0} (q : Result U PpmError) (e : PpmError) (known : Option (List ℕ)) (before after : Option (List Place))
+    → IsErrAnd q (λ x. x ≡ e) → AnswersOfHeader {T = T} (Err e) known before after → AnswersOfHeader q known before after
+answer_handed_on T (Ok x) e known before after is so = absurd is
+answer_handed_on T {U} (Err x) e known before after is so =
+    subst (λ y. AnswersOfHeader {T = U} (Err y) known before after) (sym is) (answered T U e known before after so)
 
 -- whether there is a value
 pub made_if_ok : {T E : Type 0} (q : Result T E) (b : Bool) → b ≡ is_ok q → OnOk q (b ≡ true)
@@ -51,9 +51,9 @@ value_if_made (Ok x) b P is made so = so
 value_if_made (Err e) b P is made so = absurd (false≢true (sym is ∙ made))
 
 -- the answer is an error
-pub told_refused : {T E : Type 0} (q : Result T E) (R : E → Type 0) (P : Bool → Type 0) → IsErrAnd q R → P true → P (is_err q)
-told_refused (Ok x) R P is so = absurd is
-told_refused (Err e) R P is so = so
+pub known_refused : {T E : Type 0} (q : Result T E) (R : E → Type 0) (P : Bool → Type 0) → IsErrAnd q R → P true → P (is_err q)
+known_refused (Ok x) R P is so = absurd is
+known_refused (Err e) R P is so = so
 
 -- a flaw of bytes is no fault
 pub flaw_no_fault : {T : Type 0} (q : Result T PpmError) (e : PpmError) (most : ℕ) (b : List ℕ) (P : Type 0) → IsErrAnd q (λ x. x ≡ e)
@@ -62,7 +62,7 @@ flaw_no_fault (Ok x) e most b P is flaw failed = absurd is
 flaw_no_fault (Err x) e most b P is flaw failed = let same : e ≡ Failed = cc in absurd (subst (IsFlawUpTo most b) same flaw)
 
 -- what is so of a fault and of want of memory is so of a refusal of the outside
-pub outside_is : (P : PpmError → Type 0) → P Failed → P NoMemory → (e : PpmError) → IsOutsideRefusal e → P e
+pub outside_is : (P : PpmError → Type 0) → P Failed → P NoMemory → (e : PpmError) → IsPpmOutsideRefusal e → P e
 outside_is P fault memory BadMagic outside = absurd outside
 outside_is P fault memory (BadHeader at) outside = absurd outside
 outside_is P fault memory BadSize outside = absurd outside
@@ -73,19 +73,19 @@ outside_is P fault memory Failed outside = fault
 outside_is P fault memory NoMemory outside = memory
 
 -- it says nothing of what was read
-pub outside_answer : {T : Type 0} (q : Result T PpmError) (e : PpmError) (told : Option (List ℕ)) (before after : Option (List Place))
-    → IsErrAnd q (λ x. x ≡ e) → IsOutsideRefusal e → AnswersOfImage q told before after
-outside_answer {T} (Ok x) e told before after is outside = absurd is
-outside_answer {T} (Err x) e told before after is outside =
-    outside_is (λ y. AnswersOfImage {T = T} (Err y) told before after) tt tt x (subst IsOutsideRefusal (sym is) outside)
+pub outside_answer : {T : Type 0} (q : Result T PpmError) (e : PpmError) (known : Option (List ℕ)) (before after : Option (List Place))
+    → IsErrAnd q (λ x. x ≡ e) → IsPpmOutsideRefusal e → AnswersOfImage q known before after
+outside_answer {T} (Ok x) e known before after is outside = absurd is
+outside_answer {T} (Err x) e known before after is outside =
+    outside_is (λ y. AnswersOfImage {T = T} (Err y) known before after) tt tt x (subst IsPpmOutsideRefusal (sym is) outside)
 
 -- a flaw of the header is told once the front was read
-pub header_answer : {T : Type 0} (q : Result T PpmError) (e : PpmError) (told : Option (List ℕ)) (before after : Option (List Place))
-    → IsErrAnd q (λ x. x ≡ e) → (IsRasterRefusal e → ⊥) → ReadsFront told before after → AnswersOfImage q told before after
-header_answer {T} (Ok x) e told before after is other read = absurd is
-header_answer {T} (Err x) e told before after is other read = of x (subst (λ y. IsRasterRefusal y → ⊥) (sym is) other)
+pub header_answer : {T : Type 0} (q : Result T PpmError) (e : PpmError) (known : Option (List ℕ)) (before after : Option (List Place))
+    → IsErrAnd q (λ x. x ≡ e) → (IsRasterRefusal e → ⊥) → ReadsFront known before after → AnswersOfImage q known before after
+header_answer {T} (Ok x) e known before after is other read = absurd is
+header_answer {T} (Err x) e known before after is other read = of x (subst (λ y. IsRasterRefusal y → ⊥) (sym is) other)
   where
-    of : (y : PpmError) → (IsRasterRefusal y → ⊥) → AnswersOfImage {T = T} (Err y) told before after
+    of : (y : PpmError) → (IsRasterRefusal y → ⊥) → AnswersOfImage {T = T} (Err y) known before after
     of BadMagic never = read
     of (BadHeader at) never = read
     of BadSize never = read
@@ -96,23 +96,23 @@ header_answer {T} (Err x) e told before after is other read = of x (subst (λ y.
     of NoMemory never = tt
 
 -- an answer about a header where the front was read, and where the outside refused
-pub front_answer : {T : Type 0} (q : Result T PpmError) (told : Option (List ℕ)) (before after : Option (List Place)) → ReadsFront told before after
-    → AnswersOfHeader q told before after
-front_answer (Ok x) told before after read = read
-front_answer (Err BadMagic) told before after read = read
-front_answer (Err (BadHeader at)) told before after read = read
-front_answer (Err BadSize) told before after read = read
-front_answer (Err BadMaximum) told before after read = read
-front_answer (Err (Truncated want have)) told before after read = read
-front_answer (Err (SampleOver at)) told before after read = read
-front_answer (Err Failed) told before after read = tt
-front_answer (Err NoMemory) told before after read = tt
+pub front_answer : {T : Type 0} (q : Result T PpmError) (known : Option (List ℕ)) (before after : Option (List Place)) → ReadsFront known before after
+    → AnswersOfHeader q known before after
+front_answer (Ok x) known before after read = read
+front_answer (Err BadMagic) known before after read = read
+front_answer (Err (BadHeader at)) known before after read = read
+front_answer (Err BadSize) known before after read = read
+front_answer (Err BadMaximum) known before after read = read
+front_answer (Err (Truncated want have)) known before after read = read
+front_answer (Err (SampleOver at)) known before after read = read
+front_answer (Err Failed) known before after read = tt
+front_answer (Err NoMemory) known before after read = tt
 
-pub outside_header_answer : {T : Type 0} (q : Result T PpmError) (e : PpmError) (told : Option (List ℕ)) (before after : Option (List Place))
-    → IsErrAnd q (λ x. x ≡ e) → IsOutsideRefusal e → AnswersOfHeader q told before after
-outside_header_answer {T} (Ok x) e told before after is outside = absurd is
-outside_header_answer {T} (Err x) e told before after is outside =
-    outside_is (λ y. AnswersOfHeader {T = T} (Err y) told before after) tt tt x (subst IsOutsideRefusal (sym is) outside)
+pub outside_header_answer : {T : Type 0} (q : Result T PpmError) (e : PpmError) (known : Option (List ℕ)) (before after : Option (List Place))
+    → IsErrAnd q (λ x. x ≡ e) → IsPpmOutsideRefusal e → AnswersOfHeader q known before after
+outside_header_answer {T} (Ok x) e known before after is outside = absurd is
+outside_header_answer {T} (Err x) e known before after is outside =
+    outside_is (λ y. AnswersOfHeader {T = T} (Err y) known before after) tt tt x (subst IsPpmOutsideRefusal (sym is) outside)
 
 -- neither a refusal of the outside nor a flaw of the header speaks of samples
 pub no_raster_no_sample : (e : PpmError) → (IsRasterRefusal e → ⊥) → IsSampleRefusal e → ⊥
@@ -125,7 +125,7 @@ no_raster_no_sample (Truncated want have) never sample = sample
 no_raster_no_sample Failed never sample = sample
 no_raster_no_sample NoMemory never sample = sample
 
-pub outside_no_sample : (e : PpmError) → IsOutsideRefusal e → IsSampleRefusal e → ⊥
+pub outside_no_sample : (e : PpmError) → IsPpmOutsideRefusal e → IsSampleRefusal e → ⊥
 outside_no_sample = outside_is (λ e. IsSampleRefusal e → ⊥) (λ sample. sample) (λ sample. sample)
 
 -- no read is noted where memory was refused
@@ -134,7 +134,7 @@ pub notes_none : {T : Type 0} (q : Result T PpmError) (at len : ℕ) (places : O
 notes_none (Ok x) at len places is = absurd is
 notes_none {T} (Err x) at len places is = subst (λ y. NotesRead {T = T} (Err y) at len places places) (sym is) refl
 
-pub outside_no_raster : (e : PpmError) → IsOutsideRefusal e → IsRasterRefusal e → ⊥
+pub outside_no_raster : (e : PpmError) → IsPpmOutsideRefusal e → IsRasterRefusal e → ⊥
 outside_no_raster = outside_is (λ e. IsRasterRefusal e → ⊥) (λ never. never) (λ never. never)
 
 -- an answer that names a flaw of bytes is no fault

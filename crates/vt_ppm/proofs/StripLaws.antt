@@ -6,7 +6,7 @@ use Rattle.std.proofs.lemmas.List.Elements.{All-take, All-drop}
 use Rattle.std.proofs.lemmas.Nat.{mul-le}
 use Rattle.vt_definitions.specs.Depths.{IsDepth, AreBytes, greatest_sample, sample_at, texel_length}
 use Rattle.vt_definitions.specs.Limits.{header_limit, most_tiled_side}
-use Rattle.vt_outside.specs.Files.{IsPiece, TellsBytes, HasPlace, noted}
+use Rattle.vt_outside.specs.Files.{IsPiece, AreBytesIfKnown, HasPlace, noted}
 use Rattle.vt_outside.specs.declared.place.Place.{Place}
 use Rattle.vt_ppm.specs.declared.error.PpmError.{PpmError}
 use Rattle.vt_ppm.specs.declared.error.PpmError.TheVariants.{Failed}
@@ -15,10 +15,10 @@ use Rattle.vt_ppm.specs.Format.{IsTexture, AreUpTo, depth_of, scaled}
 use Rattle.vt_ppm.specs.Flaws.{IsLawfulHeader, IsSampleOver}
 use Rattle.vt_ppm.specs.Reads.{IsImagePrefix}
 use Rattle.vt_ppm.specs.Samples.{AreScaledUpTo, IsFirstOver}
-use Rattle.vt_ppm.specs.Strips.{HasRaster, HasRasterIfTold, MayBeOver, HasSamplesIfTold, IsTextureIfTold, AreRowsUpTo, texture_of, sample_bytes, kept_samples, row_length, row_start, rows_of, RowsAsked, ChecksRows}
+use Rattle.vt_ppm.specs.Strips.{HasRaster, HasRasterIfKnown, MayBeOver, HasSamplesIfKnown, IsTextureIfKnown, AreRowsUpTo, texture_of, sample_bytes, kept_samples, row_length, row_start, sample_rows, RowsAsked, ChecksRows}
 use Rattle.vt_ppm.proofs.Rasters.{image_made}
 use Rattle.vt_ppm.proofs.SampleValues.{by_depth, depth_is, sample_few, kept_few, same_bytes, samples_of_texels, samples_length, samples_bytes, samples_sample}
-use Rattle.vt_ppm.proofs.TellingFiles.{header_told}
+use Rattle.vt_ppm.proofs.KnownFiles.{header_known}
 
 -- a sample of the first ones is one of all
 front_of_samples : (d : ℕ) (xs : List ℕ) (n i : ℕ) → IsDepth d → i < n → sample_at d (take (d * n) xs) i ≡ sample_at d xs i
@@ -54,8 +54,8 @@ pub rows_end : (h : Header) (y count : ℕ) → y + count ≤ h.height → row_s
 rows_end h y count inside = omega (arith, mul-le (y + count) (row_length h) h.height (row_length h) inside (omega arith))
 
 -- the place of rows in bytes that have the raster
-pub rows_inside : (told : Option (List ℕ)) (h : Header) (y count len : ℕ) → HasRasterIfTold told h → y + count ≤ h.height
-    → len ≡ count * row_length h → HasPlace told (row_start h y) len
+pub rows_inside : (known : Option (List ℕ)) (h : Header) (y count len : ℕ) → HasRasterIfKnown known h → y + count ≤ h.height
+    → len ≡ count * row_length h → HasPlace known (row_start h y) len
 rows_inside None h y count len has inside e = tt
 rows_inside (Some b) h y count len has inside e = omega (arith, (has.each b refl).full, rows_end h y count inside, e)
 
@@ -146,12 +146,12 @@ texture_is b h has few =
     (samples_length d value n (depth_is h.maximum) ∙ sym size)
     (samples_bytes d value n (depth_is h.maximum))
 
-pub texture_told : (told : Option (List ℕ)) (h : Header) → HasRasterIfTold told h → HasSamplesIfTold told h → IsTextureIfTold told h
-texture_told told h raster samples = record { each = λ b e. texture_is b h (raster.each b e) (samples.each b e) }
+pub texture_known : (known : Option (List ℕ)) (h : Header) → HasRasterIfKnown known h → HasSamplesIfKnown known h → IsTextureIfKnown known h
+texture_known known h raster samples = record { each = λ b e. texture_is b h (raster.each b e) (samples.each b e) }
 
 -- where no sample may be above the maximum, none is
-pub none_over : (told : Option (List ℕ)) (h : Header) → HasRasterIfTold told h → (MayBeOver h → ⊥) → HasSamplesIfTold told h
-none_over told h raster never = record { each = λ b e i inside. below b (raster.each b e) i }
+pub none_over : (known : Option (List ℕ)) (h : Header) → HasRasterIfKnown known h → (MayBeOver h → ⊥) → HasSamplesIfKnown known h
+none_over known h raster never = record { each = λ b e i inside. below b (raster.each b e) i }
   where
     below : (b : List ℕ) → HasRaster b h → (i : ℕ) → sample_at (depth_of h.maximum) (drop h.raster b) i ≤ h.maximum
     below b has i =
@@ -165,7 +165,7 @@ none_over told h raster never = record { each = λ b e i inside. below b (raster
 -- rows that were read and scaled are those of the texture
 pub rows_are : (h : Header) (b xs out : List ℕ) (y count : ℕ) → HasRaster b h → AreRowsUpTo h b h.height → y + count ≤ h.height
     → IsPiece b (row_start h y) xs → length xs ≡ count * row_length h → length out ≡ length xs
-    → AreScaledUpTo (depth_of h.maximum) h.maximum (3 * (h.width * count)) xs out → AreBytes out → out ≡ rows_of h b y count
+    → AreScaledUpTo (depth_of h.maximum) h.maximum (3 * (h.width * count)) xs out → AreBytes out → out ≡ sample_rows h b y count
 unfolding kept_samples
 rows_are h b xs out y count has few inside piece full kept scaling bytes =
     let d : ℕ = depth_of h.maximum in
@@ -198,51 +198,51 @@ rows_are h b xs out y count has few inside piece full kept scaling bytes =
     ∙ ap (λ m. take (count * row_length h) (drop m (sample_bytes d value n))) (sym from)
 
 -- the raster is there where the file has as many bytes behind the header
-pub raster_told : (told : Option (List ℕ)) (n : ℕ) (front : List ℕ) (h : Header) (want have : ℕ) → IfSome told (λ b. IsImagePrefix b n front)
+pub raster_known : (known : Option (List ℕ)) (n : ℕ) (front : List ℕ) (h : Header) (want have : ℕ) → IfSome known (λ b. IsImagePrefix b n front)
     → length front ≡ min n header_limit → IsLawfulHeader most_tiled_side front h.raster h.width h.height h.maximum
-    → want ≡ texel_length (depth_of h.maximum) * (h.width * h.height) → have ≡ n - h.raster → want ≤ have → TellsBytes told → HasRasterIfTold told h
-raster_told told n front h want have is few header want_is have_is enough values =
-    record { each = λ b e. there b (subst TellsBytes e values) (subst (λ t. IfSome t (λ b. IsImagePrefix b n front)) e is) }
+    → want ≡ texel_length (depth_of h.maximum) * (h.width * h.height) → have ≡ n - h.raster → want ≤ have → AreBytesIfKnown known → HasRasterIfKnown known h
+raster_known known n front h want have is few header want_is have_is enough values =
+    record { each = λ b e. there b (subst AreBytesIfKnown e values) (subst (λ t. IfSome t (λ b. IsImagePrefix b n front)) e is) }
   where
     there : (b : List ℕ) → AreBytes b → IsImagePrefix b n front → HasRaster b h
     there b are f =
         let whole : h.height * row_length h ≡ texel_length (depth_of h.maximum) * (h.width * h.height) = grind arith in
         record {
           values = are;
-          header = header_told most_tiled_side (Some b) n front f h.raster h.width h.height h.maximum header;
+          header = header_known most_tiled_side (Some b) n front f h.raster h.width h.height h.maximum header;
           full = omega (arith, f.len_is, few, header.sized.header.within, want_is, have_is, enough, whole);
         }
 
 -- what rows that were read say of the file, where it tells its bytes
-module _ (told : Option (List ℕ)) (h : Header) (xs : List ℕ) (y count start samples : ℕ) (e : start ≡ row_start h y)
-    (piece : IfSome told (λ b. IsPiece b start xs)) (full : length xs ≡ count * row_length h) (counted : samples ≡ 3 * (h.width * count)) where
-  pub more_told : AreUpTo (depth_of h.maximum) h.maximum samples xs → IfSome told (λ b. AreRowsUpTo h b y → AreRowsUpTo h b (y + count))
-  more_told few = found told piece
+module _ (known : Option (List ℕ)) (h : Header) (xs : List ℕ) (y count start samples : ℕ) (e : start ≡ row_start h y)
+    (piece : IfSome known (λ b. IsPiece b start xs)) (full : length xs ≡ count * row_length h) (counted : samples ≡ 3 * (h.width * count)) where
+  pub more_known : AreUpTo (depth_of h.maximum) h.maximum samples xs → IfSome known (λ b. AreRowsUpTo h b y → AreRowsUpTo h b (y + count))
+  more_known few = found known piece
     where
       found : (t : Option (List ℕ)) → IfSome t (λ b. IsPiece b start xs) → IfSome t (λ b. AreRowsUpTo h b y → AreRowsUpTo h b (y + count))
       found None p = tt
       found (Some b) p = rows_more h b xs y count (subst (λ k. IsPiece b k xs) e p) full (λ i inside. few i (omega (arith, inside, counted)))
 
-  pub over_told : (number depth at : ℕ) → HasRasterIfTold told h → y + count ≤ h.height → depth ≡ depth_of h.maximum
+  pub over_known : (number depth at : ℕ) → HasRasterIfKnown known h → y + count ≤ h.height → depth ≡ depth_of h.maximum
       → IsFirstOver (depth_of h.maximum) h.maximum samples xs number → at ≡ start + depth * number
-      → IfSome told (λ b. AreRowsUpTo h b y → IsSampleOver most_tiled_side b at)
-  over_told number depth at has inside ed over place = found told has piece
+      → IfSome known (λ b. AreRowsUpTo h b y → IsSampleOver most_tiled_side b at)
+  over_known number depth at has inside ed over place = found known has piece
     where
       at_is : at ≡ row_start h y + depth_of h.maximum * number
       at_is = place ∙ ap (λ k. k + depth * number) e ∙ ap (λ k. row_start h y + k * number) ed
 
-      found : (t : Option (List ℕ)) → HasRasterIfTold t h → IfSome t (λ b. IsPiece b start xs)
+      found : (t : Option (List ℕ)) → HasRasterIfKnown t h → IfSome t (λ b. IsPiece b start xs)
           → IfSome t (λ b. AreRowsUpTo h b y → IsSampleOver most_tiled_side b at)
       found None has p = tt
       found (Some b) has p = rows_over h b xs y count number at (has.each b refl) (subst (λ k. IsPiece b k xs) e p) full inside
           (record { within = omega (arith, over.within, counted); over = over.over; first = over.first }) at_is
 
-  pub scaled_told : (out : List ℕ) → HasRasterIfTold told h → HasSamplesIfTold told h → y + count ≤ h.height → length out ≡ length xs
-      → AreScaledUpTo (depth_of h.maximum) h.maximum samples xs out → AreBytes out → IfSome told (λ b. out ≡ rows_of h b y count)
-  scaled_told out has few inside kept scaling bytes = found told has few piece
+  pub scaled_known : (out : List ℕ) → HasRasterIfKnown known h → HasSamplesIfKnown known h → y + count ≤ h.height → length out ≡ length xs
+      → AreScaledUpTo (depth_of h.maximum) h.maximum samples xs out → AreBytes out → IfSome known (λ b. out ≡ sample_rows h b y count)
+  scaled_known out has few inside kept scaling bytes = found known has few piece
     where
-      found : (t : Option (List ℕ)) → HasRasterIfTold t h → HasSamplesIfTold t h → IfSome t (λ b. IsPiece b start xs)
-          → IfSome t (λ b. out ≡ rows_of h b y count)
+      found : (t : Option (List ℕ)) → HasRasterIfKnown t h → HasSamplesIfKnown t h → IfSome t (λ b. IsPiece b start xs)
+          → IfSome t (λ b. out ≡ sample_rows h b y count)
       found None has few p = tt
       found (Some b) has few p = rows_are h b xs out y count (has.each b refl) (few.each b refl) inside (subst (λ k. IsPiece b k xs) e p) full kept
           (λ i there. scaling i (omega (arith, there, counted))) bytes

@@ -10,79 +10,79 @@ use Rattle.vt_ppm.specs.Format.{depth_of}
 use Rattle.vt_ppm.specs.Flaws.{IsLawfulHeader}
 
 -- where a header is looked for: from byte 0 on, no more bytes than a header may have, and no more than there are
-pub record IsFrontPlace (told : Option (List ℕ)) (place : Place) : Type 0 where
+pub record IsFrontPlace (known : Option (List ℕ)) (place : Place) : Type 0 where
   pub from : place.at ≡ 0
   pub few : place.len ≤ header_limit
-  pub within : IfSome told (λ b. place.len ≤ length b)
+  pub within : IfSome known (λ b. place.len ≤ length b)
 
 -- where the raster is: behind the header, so many bytes as it has, all of which are there
-pub record IsRasterPlace (told : Option (List ℕ)) (place : Place) : Type 0 where
+pub record IsRasterPlace (known : Option (List ℕ)) (place : Place) : Type 0 where
   pub width : ℕ
   pub height : ℕ
   pub maximum : ℕ
-  pub behind : IfSome told (λ b. IsLawfulHeader most_read_side b place.at width height maximum)
+  pub behind : IfSome known (λ b. IsLawfulHeader most_read_side b place.at width height maximum)
   pub whole : place.len ≡ texel_length (depth_of maximum) * (width * height)
-  pub within : IfSome told (λ b. place.at + place.len ≤ length b)
+  pub within : IfSome known (λ b. place.at + place.len ≤ length b)
 
 -- the places that are asked for a header: none, or one
 abbrev pub AreHeaderPlaces : Option (List ℕ) → List Place → Type 0
-AreHeaderPlaces told [] = Unit {0}
-AreHeaderPlaces told (front ∷ []) = IsFrontPlace told front
-AreHeaderPlaces told (front ∷ _ ∷ _) = ⊥
+AreHeaderPlaces known [] = Unit {0}
+AreHeaderPlaces known (front ∷ []) = IsFrontPlace known front
+AreHeaderPlaces known (front ∷ _ ∷ _) = ⊥
 
 -- the places that are asked for an image: those for its header, and once that was read, that of the raster
 abbrev pub AreImagePlaces : Option (List ℕ) → List Place → Type 0
-AreImagePlaces told [] = Unit {0}
-AreImagePlaces told (front ∷ []) = IsFrontPlace told front
-AreImagePlaces told (front ∷ raster ∷ []) = IsFrontPlace told front × (front.failed ≡ false) × IsRasterPlace told raster
-AreImagePlaces told (front ∷ raster ∷ _ ∷ _) = ⊥
+AreImagePlaces known [] = Unit {0}
+AreImagePlaces known (front ∷ []) = IsFrontPlace known front
+AreImagePlaces known (front ∷ raster ∷ []) = IsFrontPlace known front × (front.failed ≡ false) × IsRasterPlace known raster
+AreImagePlaces known (front ∷ raster ∷ _ ∷ _) = ⊥
 
 -- the places after are those before and then these
 abbrev pub Gains : Option (List Place) → Option (List Place) → List Place → Type 0
 Gains before after places = after ≡ option_map (λ held. held ++ places) before
 
 -- a reader of headers asked for its places and no other
-pub record AsksHeader (told : Option (List ℕ)) (before after : Option (List Place)) : Type 0 where
+pub record AsksPpmHeader (known : Option (List ℕ)) (before after : Option (List Place)) : Type 0 where
   pub places : List Place
   pub gained : Gains before after places
-  pub each : AreHeaderPlaces told places
+  pub each : AreHeaderPlaces known places
 
 -- a reader of images asked for its places and no other
-pub record AsksImage (told : Option (List ℕ)) (before after : Option (List Place)) : Type 0 where
+pub record AsksImage (known : Option (List ℕ)) (before after : Option (List Place)) : Type 0 where
   pub places : List Place
   pub gained : Gains before after places
-  pub each : AreImagePlaces told places
+  pub each : AreImagePlaces known places
 
 -- the front was asked for, alone, and that did not fail
-pub record ReadsFront (told : Option (List ℕ)) (before after : Option (List Place)) : Type 0 where
+pub record ReadsFront (known : Option (List ℕ)) (before after : Option (List Place)) : Type 0 where
   pub front : Place
   pub gained : Gains before after (front ∷ [])
-  pub is_front : IsFrontPlace told front
+  pub is_front : IsFrontPlace known front
   pub read : front.failed ≡ false
 
 -- the front and then the raster were asked for, and neither failed
-pub record ReadsRaster (told : Option (List ℕ)) (before after : Option (List Place)) : Type 0 where
+pub record ReadsRaster (known : Option (List ℕ)) (before after : Option (List Place)) : Type 0 where
   pub front : Place
   pub raster : Place
   pub gained : Gains before after (front ∷ raster ∷ [])
-  pub is_front : IsFrontPlace told front
+  pub is_front : IsFrontPlace known front
   pub front_read : front.failed ≡ false
-  pub is_raster : IsRasterPlace told raster
+  pub is_raster : IsRasterPlace known raster
   pub raster_read : raster.failed ≡ false
 
 -- an answer about a header comes once the front was read
 abbrev pub AnswersOfHeader : {T : Type 0} → Result T PpmError → Option (List ℕ) → Option (List Place) → Option (List Place) → Type 0
-AnswersOfHeader (Err Failed) told before after = Unit {0}
-AnswersOfHeader (Err NoMemory) told before after = Unit {0}
-AnswersOfHeader _ told before after = ReadsFront told before after
+AnswersOfHeader (Err Failed) known before after = Unit {0}
+AnswersOfHeader (Err NoMemory) known before after = Unit {0}
+AnswersOfHeader _ known before after = ReadsFront known before after
 
 -- an answer about samples comes once the raster was read, and one about the header or the length once the front was
 abbrev pub AnswersOfImage : {T : Type 0} → Result T PpmError → Option (List ℕ) → Option (List Place) → Option (List Place) → Type 0
-AnswersOfImage (Ok _) told before after = ReadsRaster told before after
-AnswersOfImage (Err (SampleOver at)) told before after = ReadsRaster told before after
-AnswersOfImage (Err Failed) told before after = Unit {0}
-AnswersOfImage (Err NoMemory) told before after = Unit {0}
-AnswersOfImage (Err _) told before after = ReadsFront told before after
+AnswersOfImage (Ok _) known before after = ReadsRaster known before after
+AnswersOfImage (Err (SampleOver at)) known before after = ReadsRaster known before after
+AnswersOfImage (Err Failed) known before after = Unit {0}
+AnswersOfImage (Err NoMemory) known before after = Unit {0}
+AnswersOfImage (Err _) known before after = ReadsFront known before after
 
 -- a read is noted with whether it failed, and none is made where the memory for it was refused
 abbrev pub NotesRead : {T : Type 0} → Result T PpmError → ℕ → ℕ → Option (List Place) → Option (List Place) → Type 0

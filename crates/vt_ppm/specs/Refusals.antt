@@ -3,10 +3,10 @@ use Rattle.vt_ppm.specs.declared.error.PpmError.{PpmError}
 use Rattle.vt_ppm.specs.declared.error.PpmError.TheVariants.{Failed, NoMemory, Truncated, SampleOver}
 
 -- a refusal that the file or the memory makes
-abbrev pub IsOutsideRefusal : PpmError → Type 0
-IsOutsideRefusal Failed = Unit {0}
-IsOutsideRefusal NoMemory = Unit {0}
-IsOutsideRefusal _ = ⊥
+abbrev pub IsPpmOutsideRefusal : PpmError → Type 0
+IsPpmOutsideRefusal Failed = Unit {0}
+IsPpmOutsideRefusal NoMemory = Unit {0}
+IsPpmOutsideRefusal _ = ⊥
 
 -- a refusal that speaks of the raster, and so none that reading a header alone has
 abbrev pub IsRasterRefusal : PpmError → Type 0

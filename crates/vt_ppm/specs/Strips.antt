@@ -48,8 +48,8 @@ abbrev pub row_start : Header → ℕ → ℕ
 row_start h y = h.raster + y * row_length h
 
 -- the samples of so many rows from one on
-abbrev pub rows_of : Header → List ℕ → ℕ → ℕ → List ℕ
-rows_of h b y count = take (count * row_length h) (drop (y * row_length h) (texture_of h b).samples)
+abbrev pub sample_rows : Header → List ℕ → ℕ → ℕ → List ℕ
+sample_rows h b y count = take (count * row_length h) (drop (y * row_length h) (texture_of h b).samples)
 
 -- numbers of a header that is lawful for a texture, whatever the bytes
 pub record IsTextureHeader (h : Header) : Type 0 where
@@ -63,13 +63,13 @@ pub record HasRaster (b : List ℕ) (h : Header) : Type 0 where
   pub header : IsLawfulHeader most_tiled_side b h.raster h.width h.height h.maximum
   pub full : row_start h h.height ≤ length b
 
--- the bytes, where they are told, begin with this header and have its whole raster
-pub record HasRasterIfTold (told : Option (List ℕ)) (h : Header) : Type 0 where
-  pub each : (b : List ℕ) → told ≡ Some b → HasRaster b h
+-- the bytes, where they are known, begin with this header and have its whole raster
+pub record HasRasterIfKnown (known : Option (List ℕ)) (h : Header) : Type 0 where
+  pub each : (b : List ℕ) → known ≡ Some b → HasRaster b h
 
--- the bytes, where they are told, spell the texture behind this header
-pub record IsTextureIfTold (told : Option (List ℕ)) (h : Header) : Type 0 where
-  pub each : (b : List ℕ) → told ≡ Some b → IsTexture b (texture_of h b)
+-- the bytes, where they are known, spell the texture behind this header
+pub record IsTextureIfKnown (known : Option (List ℕ)) (h : Header) : Type 0 where
+  pub each : (b : List ℕ) → known ≡ Some b → IsTexture b (texture_of h b)
 
 -- a sample may be above the maximum: the maximum is not the greatest of its depth
 abbrev pub MayBeOver : Header → Type 0
@@ -79,9 +79,9 @@ MayBeOver h = h.maximum < greatest_sample (depth_of h.maximum)
 abbrev pub AreRowsUpTo : Header → List ℕ → ℕ → Type 0
 AreRowsUpTo h b rows = AreUpTo (depth_of h.maximum) h.maximum (3 * (h.width * rows)) (drop h.raster b)
 
--- no sample of the bytes, where they are told, is above the maximum
-pub record HasSamplesIfTold (told : Option (List ℕ)) (h : Header) : Type 0 where
-  pub each : (b : List ℕ) → told ≡ Some b → AreRowsUpTo h b h.height
+-- no sample of the bytes, where they are known, is above the maximum
+pub record HasSamplesIfKnown (known : Option (List ℕ)) (h : Header) : Type 0 where
+  pub each : (b : List ℕ) → known ≡ Some b → AreRowsUpTo h b h.height
 
 -- one place more was asked: that of so many rows from one on
 abbrev pub RowsAsked : Header → ℕ → ℕ → Bool → Option (List Place) → Option (List Place) → Type 0
@@ -96,33 +96,33 @@ abbrev pub pieces_of : Header → ℕ
 pieces_of h = (h.height + piece_rows h - 1) / piece_rows h
 
 -- how many rows a piece has: the last one those that are left
-abbrev pub piece_count : Header → ℕ → ℕ
-piece_count h i = min (piece_rows h) (h.height - i * piece_rows h)
+abbrev pub raster_piece_count : Header → ℕ → ℕ
+raster_piece_count h i = min (piece_rows h) (h.height - i * piece_rows h)
 
 -- what a reader knows of its file: the header, that the raster is there, and, once they were looked over, the samples; and it has
 -- room for a piece, where pieces will be read
-pub record IsStripReader (told : Option (List ℕ)) (h : Header) (checked : Bool) (space : ℕ) : Type 0 where
+pub record IsStripReader (known : Option (List ℕ)) (h : Header) (checked : Bool) (space : ℕ) : Type 0 where
   pub header : IsTextureHeader h
-  pub raster : HasRasterIfTold told h
-  pub samples : checked ≡ true → HasSamplesIfTold told h
+  pub raster : HasRasterIfKnown known h
+  pub samples : checked ≡ true → HasSamplesIfKnown known h
   pub room : MayBeOver h → space ≡ piece_rows h * row_length h
 
 -- the place of a piece
-abbrev pub piece_place : Header → Bool → ℕ → Place
-piece_place h failed i = record { at = row_start h (i * piece_rows h); len = piece_count h i * row_length h; failed = failed }
+abbrev pub raster_piece_place : Header → Bool → ℕ → Place
+raster_piece_place h failed i = record { at = row_start h (i * piece_rows h); len = raster_piece_count h i * row_length h; failed = failed }
 
 -- the places of the first n pieces, in order
-abbrev pub piece_places : Header → ℕ → List Place
-piece_places h n = map (piece_place h false) (range_with_len 0 n)
+abbrev pub raster_piece_places : Header → ℕ → List Place
+raster_piece_places h n = map (raster_piece_place h false) (range_with_len 0 n)
 
 -- the first n pieces were asked more, each once and in order
-abbrev pub PiecesAsked : Header → ℕ → Option (List Place) → Option (List Place) → Type 0
-PiecesAsked h n before after = after ≡ option_map (λ places. places ++ piece_places h n) before
+abbrev pub RasterPiecesAsked : Header → ℕ → Option (List Place) → Option (List Place) → Type 0
+RasterPiecesAsked h n before after = after ≡ option_map (λ places. places ++ raster_piece_places h n) before
 
 -- the first n pieces were asked more and then the next one, whose read failed
 abbrev pub PiecesFailed : Header → ℕ → Option (List Place) → Option (List Place) → Type 0
 PiecesFailed h n before after =
-    after ≡ option_map (λ places. places ++ (piece_places h n ++ piece_place h true n ∷ [])) before
+    after ≡ option_map (λ places. places ++ (raster_piece_places h n ++ raster_piece_place h true n ∷ [])) before
 
 -- what is asked to look so many rows over from one on, by the answer: their place, whose read failed or did not; and a sample above the
 -- maximum is in it
@@ -135,9 +135,9 @@ ChecksRows h y count (Err _) before after = ⊥
 -- the pieces that are asked to look a raster over, by the answer: all of them; those up to that of a sample above the maximum; or those
 -- up to the one whose read failed
 abbrev pub ChecksPieces : Header → {T : Type 0} → Result T PpmError → Option (List Place) → Option (List Place) → Type 0
-ChecksPieces h (Ok _) before after = PiecesAsked h (pieces_of h) before after
+ChecksPieces h (Ok _) before after = RasterPiecesAsked h (pieces_of h) before after
 ChecksPieces h (Err (SampleOver at)) before after =
-    (n : ℕ) × (n < pieces_of h) × (at < row_start h (n * piece_rows h + piece_count h n)) × PiecesAsked h (n + 1) before after
+    (n : ℕ) × (n < pieces_of h) × (at < row_start h (n * piece_rows h + raster_piece_count h n)) × RasterPiecesAsked h (n + 1) before after
 ChecksPieces h (Err Failed) before after = (n : ℕ) × (n < pieces_of h) × PiecesFailed h n before after
 ChecksPieces h (Err _) before after = ⊥
 
@@ -148,9 +148,9 @@ pub record ReadsNothing {T : Type 0} (r : Result T PpmError) (before after : Opt
   pub count : risen ≡ faults
 
 -- the file that an opening hands back, in the reader or beside the refusal
-abbrev pub file_after : {F : Type 0} → Result (StripView F) (F × PpmError) → F
-file_after (Ok reader) = reader.file
-file_after (Err refusal) = refusal.0
+abbrev pub image_file_after : {F : Type 0} → Result (StripView F) (F × PpmError) → F
+image_file_after (Ok reader) = reader.file
+image_file_after (Err refusal) = refusal.0
 
 -- the answer of an opening without its file
 abbrev pub answer_in : {F : Type 0} → Result (StripView F) (F × PpmError) → Result Header PpmError

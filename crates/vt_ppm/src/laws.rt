@@ -17,7 +17,7 @@ pub fn header_is_one()
     ensures { (b : List ℕ) (r w h m s u v n : ℕ) → HasHeader b r w h m → HasHeader b s u v n → AreSameHeaders r w h m s u v n }
 {}
 
-/// Bytes spell one image at most, whatever the largest side that is taken, so that a reader of told bytes can answer no other.
+/// Bytes spell one image at most, whatever the largest side that is taken, so that a reader of known bytes can answer no other.
 pub fn image_is_one()
     ensures { (most : ℕ) (b : List ℕ) (p q : ImageView) → IsImageUpTo most b p → IsImageUpTo most b q → p ≡ q }
 {}
@@ -72,7 +72,7 @@ pub fn image_has_no_flaw()
     ensures { (most : ℕ) (b : List ℕ) (p : ImageView) (e : PpmError) → IsImageUpTo most b p → IsFlawUpTo most b e → ⊥ }
 {}
 
-/// Bytes have one flaw at most, whatever the largest side that is taken, so that a reader of told bytes can name no other.
+/// Bytes have one flaw at most, whatever the largest side that is taken, so that a reader of known bytes can name no other.
 pub fn flaw_is_one()
     ensures { (most : ℕ) (b : List ℕ) (e f : PpmError) → IsFlawUpTo most b e → IsFlawUpTo most b f → e ≡ f }
 {}

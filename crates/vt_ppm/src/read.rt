@@ -2,12 +2,12 @@
 ghost use Rattle.std.specs.Prelude.{◌≡◌, ◌+◌, ◌≤◌, length, min, IfOk, IfErr, IfSome, IsErrOf, OnOk};
 ghost use Rattle.vt_definitions.specs.Limits.{header_limit, most_tiled_side};
 ghost use Rattle.vt_outside.specs.Counts.{Rose};
-ghost use Rattle.vt_outside.specs.Files.{IsPiece, TellsBytes};
+ghost use Rattle.vt_outside.specs.Files.{IsPiece, AreBytesIfKnown};
 ghost use Rattle.vt_ppm.specs.Format.{IsImage};
 ghost use Rattle.vt_ppm.specs.Flaws.{AreImageSides, IsFlawUpTo, IsHeaderFlaw, IsImageFlaw, IsLawfulHeader};
-ghost use Rattle.vt_ppm.specs.Reads.{AsksHeader, AsksImage, AnswersOfHeader, AnswersOfImage, ReadsFront, NotesRead, IsImagePrefix};
-ghost use Rattle.vt_ppm.specs.Refusals.{IsOutsideRefusal, IsRasterRefusal, IsSampleRefusal};
-ghost use Rattle.vt_ppm.specs.Strips.{IsTextureHeader, HasRasterIfTold};
+ghost use Rattle.vt_ppm.specs.Reads.{AsksPpmHeader, AsksImage, AnswersOfHeader, AnswersOfImage, ReadsFront, NotesRead, IsImagePrefix};
+ghost use Rattle.vt_ppm.specs.Refusals.{IsPpmOutsideRefusal, IsRasterRefusal, IsSampleRefusal};
+ghost use Rattle.vt_ppm.specs.Strips.{IsTextureHeader, HasRasterIfKnown};
 
 use crate::header::{HEADER_LIMIT, MOST_READ_SIDE, MOST_TILED_SIDE, lawful_header, raster_length};
 use crate::parts::{over_at_in_parts, passing_threads};
@@ -41,7 +41,7 @@ fn bytes_at<F: File>(
     requires { 1 ≤ F.spare file.old }
     ensures piece { IfOk result (λ v. IfSome (F.bytes file.old) (λ b. IsPiece b at v.items)) }
     ensures count { IfOk result (λ v. length v.items ≡ count) }
-    ensures refusals { IfErr result IsOutsideRefusal }
+    ensures refusals { IfErr result IsPpmOutsideRefusal }
     ensures failed { IsErrOf result PpmError.Failed → IfSome (F.bytes file.old) (λ b. at + count ≤ length b) → Rose (F.faults file.old) (F.faults file.new) }
     ensures asked { NotesRead result at count (F.asked file.old) (F.asked file.new) }
     ensures spare { F.spare file.old ≤ F.spare file.new + 1 }
@@ -58,11 +58,11 @@ fn bytes_at<F: File>(
 fn front_of<F: File>(alloc: Global, file: &mut F, reads: u64) -> Result<Front, PpmError>
     requires { 1 ≤ reads }
     ensures front { IfOk result (λ f. IfSome (F.bytes file.old) (λ b. IsImagePrefix b f.length f.bytes.items)) }
-    ensures values { OnOk result (TellsBytes (F.bytes file.old)) }
+    ensures values { OnOk result (AreBytesIfKnown (F.bytes file.old)) }
     ensures few { IfOk result (λ f. length f.bytes.items ≡ min f.length header_limit) }
-    ensures refusals { IfErr result IsOutsideRefusal }
+    ensures refusals { IfErr result IsPpmOutsideRefusal }
     ensures failed { IsErrOf result PpmError.Failed → Rose (F.faults file.old) (F.faults file.new) }
-    ensures asked { AsksHeader (F.bytes file.old) (F.asked file.old) (F.asked file.new) }
+    ensures asked { AsksPpmHeader (F.bytes file.old) (F.asked file.old) (F.asked file.new) }
     ensures read { OnOk result (ReadsFront (F.bytes file.old) (F.asked file.old) (F.asked file.new)) }
     ensures spare { OnOk result (reads ≤ F.spare file.new + 1) }
     ensures bytes { F.bytes file.new ≡ F.bytes file.old }
@@ -83,10 +83,10 @@ fn front_of<F: File>(alloc: Global, file: &mut F, reads: u64) -> Result<Front, P
 /// other refusal comes. It asks for one place at most: the front of the file, as far as a header may reach.
 pub fn read_header<F: File>(alloc: Global, file: &mut F) -> Result<Header, PpmError>
     ensures header { IfOk result (λ h. IfSome (F.bytes file.old) (λ b. IsLawfulHeader most_tiled_side b h.raster h.width h.height h.maximum)) }
-    ensures flaw { IfErr result (λ e. (IsOutsideRefusal e → ⊥) → IfSome (F.bytes file.old) (λ b. IsHeaderFlaw b e)) }
+    ensures flaw { IfErr result (λ e. (IsPpmOutsideRefusal e → ⊥) → IfSome (F.bytes file.old) (λ b. IsHeaderFlaw b e)) }
     ensures no_raster { IfErr result (λ e. IsRasterRefusal e → ⊥) }
     ensures failed { IsErrOf result PpmError.Failed → Rose (F.faults file.old) (F.faults file.new) }
-    ensures asked { AsksHeader (F.bytes file.old) (F.asked file.old) (F.asked file.new) }
+    ensures asked { AsksPpmHeader (F.bytes file.old) (F.asked file.old) (F.asked file.new) }
     ensures read { AnswersOfHeader result (F.bytes file.old) (F.asked file.old) (F.asked file.new) }
     ensures bytes { F.bytes file.new ≡ F.bytes file.old }
     ensures name { F.name file.new ≡ F.name file.old }
@@ -106,11 +106,11 @@ pub fn read_texture_header<F: File>(
     requires { most ≤ most_tiled_side }
     ensures limits { IfOk result IsTextureHeader }
     ensures sides { IfOk result (λ h. AreImageSides most h.width h.height) }
-    ensures raster { IfOk result (HasRasterIfTold (F.bytes file.old)) }
-    ensures flaw { IfErr result (λ e. (IsOutsideRefusal e → ⊥) → IfSome (F.bytes file.old) (λ b. IsFlawUpTo most b e)) }
+    ensures raster { IfOk result (HasRasterIfKnown (F.bytes file.old)) }
+    ensures flaw { IfErr result (λ e. (IsPpmOutsideRefusal e → ⊥) → IfSome (F.bytes file.old) (λ b. IsFlawUpTo most b e)) }
     ensures no_sample { IfErr result (λ e. IsSampleRefusal e → ⊥) }
     ensures failed { IsErrOf result PpmError.Failed → Rose (F.faults file.old) (F.faults file.new) }
-    ensures asked { AsksHeader (F.bytes file.old) (F.asked file.old) (F.asked file.new) }
+    ensures asked { AsksPpmHeader (F.bytes file.old) (F.asked file.old) (F.asked file.new) }
     ensures read { AnswersOfHeader result (F.bytes file.old) (F.asked file.old) (F.asked file.new) }
     ensures bytes { F.bytes file.new ≡ F.bytes file.old }
     ensures name { F.name file.new ≡ F.name file.old }
@@ -138,7 +138,7 @@ pub fn read_image<Rt: Threads + Sync, F: File>(
     file: &mut F,
 ) -> Result<Image, PpmError>
     ensures image { IfOk result (λ i. IfSome (F.bytes file.old) (λ b. IsImage b i)) }
-    ensures flaw { IfErr result (λ e. (IsOutsideRefusal e → ⊥) → IfSome (F.bytes file.old) (λ b. IsImageFlaw b e)) }
+    ensures flaw { IfErr result (λ e. (IsPpmOutsideRefusal e → ⊥) → IfSome (F.bytes file.old) (λ b. IsImageFlaw b e)) }
     ensures failed { IsErrOf result PpmError.Failed → Rose (F.faults file.old) (F.faults file.new) }
     ensures asked { AsksImage (F.bytes file.old) (F.asked file.old) (F.asked file.new) }
     ensures read { AnswersOfImage result (F.bytes file.old) (F.asked file.old) (F.asked file.new) }

@@ -5,9 +5,9 @@ ghost use Rattle.vt_definitions.specs.Limits.{most_tiled_side};
 ghost use Rattle.vt_outside.specs.Counts.{Rose};
 ghost use Rattle.vt_ppm.specs.Flaws.{AreImageSides, IsFlawUpTo, IsHeaderFlaw};
 ghost use Rattle.vt_ppm.specs.Format.{depth_of};
-ghost use Rattle.vt_ppm.specs.Reads.{AsksHeader, AnswersOfHeader};
-ghost use Rattle.vt_ppm.specs.Refusals.{IsOutsideRefusal, IsSampleRefusal, IsCheckRefusal};
-ghost use Rattle.vt_ppm.specs.Strips.{AreRowsUpTo, HasRasterIfTold, HasSamplesIfTold, IsTextureIfTold, IsTextureHeader, MayBeOver, ChecksPieces, ChecksRows, ReadsNothing, GainsRows, RowsAsked, piece_rows, row_length, rows_of, file_after, answer_in};
+ghost use Rattle.vt_ppm.specs.Reads.{AsksPpmHeader, AnswersOfHeader};
+ghost use Rattle.vt_ppm.specs.Refusals.{IsPpmOutsideRefusal, IsSampleRefusal, IsCheckRefusal};
+ghost use Rattle.vt_ppm.specs.Strips.{AreRowsUpTo, HasRasterIfKnown, HasSamplesIfKnown, IsTextureIfKnown, IsTextureHeader, MayBeOver, ChecksPieces, ChecksRows, ReadsNothing, GainsRows, RowsAsked, piece_rows, row_length, sample_rows, image_file_after, answer_in};
 
 use crate::header::{MOST_TILED_SIDE, depth_of};
 use crate::raster::{first_over, scale};
@@ -55,13 +55,13 @@ fn opened<F: File>(alloc: Global, file: &mut F, most: u32) -> Result<(Header, Ve
     requires { most ≤ most_tiled_side }
     ensures limits { IfOk result (λ o. IsTextureHeader o.0) }
     ensures sides { IfOk result (λ o. AreImageSides most o.0.width o.0.height) }
-    ensures raster { IfOk result (λ o. HasRasterIfTold (F.bytes file.old) o.0) }
+    ensures raster { IfOk result (λ o. HasRasterIfKnown (F.bytes file.old) o.0) }
     ensures room { IfOk result (λ o. MayBeOver o.0 → length o.1.items ≡ piece_rows o.0 * row_length o.0) }
     ensures none { IfOk result (λ o. (MayBeOver o.0 → ⊥) → length o.1.items ≡ 0) }
-    ensures flaw { IfErr result (λ e. (IsOutsideRefusal e → ⊥) → IfSome (F.bytes file.old) (λ b. IsFlawUpTo most b e)) }
+    ensures flaw { IfErr result (λ e. (IsPpmOutsideRefusal e → ⊥) → IfSome (F.bytes file.old) (λ b. IsFlawUpTo most b e)) }
     ensures no_sample { IfErr result (λ e. IsSampleRefusal e → ⊥) }
     ensures failed { IsErrOf result PpmError.Failed → Rose (F.faults file.old) (F.faults file.new) }
-    ensures asked { AsksHeader (F.bytes file.old) (F.asked file.old) (F.asked file.new) }
+    ensures asked { AsksPpmHeader (F.bytes file.old) (F.asked file.old) (F.asked file.new) }
     ensures read { AnswersOfHeader result (F.bytes file.old) (F.asked file.old) (F.asked file.new) }
     ensures bytes { F.bytes file.new ≡ F.bytes file.old }
     ensures name { F.name file.new ≡ F.name file.old }
@@ -81,7 +81,7 @@ fn look_over_rows<F: File>(
     buffer: &mut [u8],
 ) -> Result<(), PpmError>
     requires header { IsTextureHeader header.now }
-    requires raster { HasRasterIfTold (F.bytes file.old) header.now }
+    requires raster { HasRasterIfKnown (F.bytes file.old) header.now }
     requires inside { y + count ≤ header.now.height }
     requires size { length buffer.old ≡ count * row_length header.now }
     requires spare { 1 ≤ F.spare file.old }
@@ -112,10 +112,10 @@ fn look_over_pieces<F: File>(
     buffer: &mut [u8],
 ) -> Result<(), PpmError>
     requires header { IsTextureHeader header.now }
-    requires raster { HasRasterIfTold (F.bytes file.old) header.now }
+    requires raster { HasRasterIfKnown (F.bytes file.old) header.now }
     requires size { length buffer.old ≡ piece_rows header.now * row_length header.now }
     requires spare { header.now.height ≤ F.spare file.old }
-    ensures few { OnOk result (HasSamplesIfTold (F.bytes file.old) header.now) }
+    ensures few { OnOk result (HasSamplesIfKnown (F.bytes file.old) header.now) }
     ensures flaw { IfErr result (λ e. IsSampleRefusal e → IfSome (F.bytes file.old) (λ b. IsHeaderFlaw b e)) }
     ensures refusals { IfErr result IsCheckRefusal }
     ensures failed { IsErrOf result PpmError.Failed → Rose (F.faults file.old) (F.faults file.new) }
@@ -139,10 +139,10 @@ fn look_over_pieces<F: File>(
 // Looks all rows over, where a sample may be above the maximum. Else no sample of bytes is, and nothing is read.
 fn look_over<F: File>(file: &mut F, header: &Header, buffer: &mut [u8]) -> Result<(), PpmError>
     requires header { IsTextureHeader header.now }
-    requires raster { HasRasterIfTold (F.bytes file.old) header.now }
+    requires raster { HasRasterIfKnown (F.bytes file.old) header.now }
     requires size { MayBeOver header.now → length buffer.old ≡ piece_rows header.now * row_length header.now }
     requires spare { header.now.height ≤ F.spare file.old }
-    ensures few { OnOk result (HasSamplesIfTold (F.bytes file.old) header.now) }
+    ensures few { OnOk result (HasSamplesIfKnown (F.bytes file.old) header.now) }
     ensures flaw { IfErr result (λ e. IsSampleRefusal e → IfSome (F.bytes file.old) (λ b. IsHeaderFlaw b e)) }
     ensures refusals { IfErr result IsCheckRefusal }
     ensures failed { IsErrOf result PpmError.Failed → Rose (F.faults file.old) (F.faults file.new) }
@@ -169,16 +169,16 @@ impl<F: File> StripReader<F> {
     /// refusal comes: samples are looked over by `check`.
     pub fn open(alloc: Global, file: F) -> Result<StripReader<F>, (F, PpmError)>
         ensures limits { IfOk result (λ s. IsTextureHeader s.header) }
-        ensures raster { IfOk result (λ s. HasRasterIfTold (F.bytes file) s.header) }
+        ensures raster { IfOk result (λ s. HasRasterIfKnown (F.bytes file) s.header) }
         ensures unchecked { IfOk result (λ s. s.checked ≡ false) }
-        ensures flaw { IfErr result (λ e. (IsOutsideRefusal e.1 → ⊥) → IfSome (F.bytes file) (λ b. IsHeaderFlaw b e.1)) }
+        ensures flaw { IfErr result (λ e. (IsPpmOutsideRefusal e.1 → ⊥) → IfSome (F.bytes file) (λ b. IsHeaderFlaw b e.1)) }
         ensures no_sample { IfErr result (λ e. IsSampleRefusal e.1 → ⊥) }
         ensures failed { IfErr result (λ e. e.1 ≡ PpmError.Failed → Rose (F.faults file) (F.faults e.0)) }
-        ensures asked { AsksHeader (F.bytes file) (F.asked file) (F.asked (file_after result)) }
-        ensures read { AnswersOfHeader (answer_in result) (F.bytes file) (F.asked file) (F.asked (file_after result)) }
-        ensures bytes { F.bytes (file_after result) ≡ F.bytes file }
-        ensures name { F.name (file_after result) ≡ F.name file }
-        ensures faults { F.faults file ≤ F.faults (file_after result) }
+        ensures asked { AsksPpmHeader (F.bytes file) (F.asked file) (F.asked (image_file_after result)) }
+        ensures read { AnswersOfHeader (answer_in result) (F.bytes file) (F.asked file) (F.asked (image_file_after result)) }
+        ensures bytes { F.bytes (image_file_after result) ≡ F.bytes file }
+        ensures name { F.name (image_file_after result) ≡ F.name file }
+        ensures faults { F.faults file ≤ F.faults (image_file_after result) }
     {
         StripReader::open_within(alloc, file, MOST_TILED_SIDE)
     }
@@ -192,16 +192,16 @@ impl<F: File> StripReader<F> {
         requires { most ≤ most_tiled_side }
         ensures limits { IfOk result (λ s. IsTextureHeader s.header) }
         ensures sides { IfOk result (λ s. AreImageSides most s.header.width s.header.height) }
-        ensures raster { IfOk result (λ s. HasRasterIfTold (F.bytes file) s.header) }
+        ensures raster { IfOk result (λ s. HasRasterIfKnown (F.bytes file) s.header) }
         ensures unchecked { IfOk result (λ s. s.checked ≡ false) }
-        ensures flaw { IfErr result (λ e. (IsOutsideRefusal e.1 → ⊥) → IfSome (F.bytes file) (λ b. IsFlawUpTo most b e.1)) }
+        ensures flaw { IfErr result (λ e. (IsPpmOutsideRefusal e.1 → ⊥) → IfSome (F.bytes file) (λ b. IsFlawUpTo most b e.1)) }
         ensures no_sample { IfErr result (λ e. IsSampleRefusal e.1 → ⊥) }
         ensures failed { IfErr result (λ e. e.1 ≡ PpmError.Failed → Rose (F.faults file) (F.faults e.0)) }
-        ensures asked { AsksHeader (F.bytes file) (F.asked file) (F.asked (file_after result)) }
-        ensures read { AnswersOfHeader (answer_in result) (F.bytes file) (F.asked file) (F.asked (file_after result)) }
-        ensures bytes { F.bytes (file_after result) ≡ F.bytes file }
-        ensures name { F.name (file_after result) ≡ F.name file }
-        ensures faults { F.faults file ≤ F.faults (file_after result) }
+        ensures asked { AsksPpmHeader (F.bytes file) (F.asked file) (F.asked (image_file_after result)) }
+        ensures read { AnswersOfHeader (answer_in result) (F.bytes file) (F.asked file) (F.asked (image_file_after result)) }
+        ensures bytes { F.bytes (image_file_after result) ≡ F.bytes file }
+        ensures name { F.name (image_file_after result) ≡ F.name file }
+        ensures faults { F.faults file ≤ F.faults (image_file_after result) }
     {
         match opened(alloc, &mut file, most) {
             Ok((header, buffer)) => Ok(StripReader {
@@ -218,8 +218,8 @@ impl<F: File> StripReader<F> {
     pub fn header(&self) -> &Header
         ensures value { result.now ≡ self.now.header }
         ensures limits { IsTextureHeader self.now.header }
-        ensures raster { HasRasterIfTold (F.bytes self.now.file) self.now.header }
-        ensures texture { self.now.checked ≡ true → IsTextureIfTold (F.bytes self.now.file) self.now.header }
+        ensures raster { HasRasterIfKnown (F.bytes self.now.file) self.now.header }
+        ensures texture { self.now.checked ≡ true → IsTextureIfKnown (F.bytes self.now.file) self.now.header }
     {
         let _ = &self.buffer;
         &self.header
@@ -265,7 +265,7 @@ impl<F: File> StripReader<F> {
     /// row is read: `into_file` hands the file back.
     pub fn check(&mut self) -> Result<(), PpmError>
         requires spare { self.old.header.height ≤ F.spare self.old.file }
-        ensures texture { OnOk result (IsTextureIfTold (F.bytes self.old.file) self.old.header) }
+        ensures texture { OnOk result (IsTextureIfKnown (F.bytes self.old.file) self.old.header) }
         ensures checked { OnOk result (self.new.checked ≡ true) }
         ensures refused { OnErr result (self.new.checked ≡ false) }
         ensures flaw { IfErr result (λ e. IsSampleRefusal e → IfSome (F.bytes self.old.file) (λ b. IsHeaderFlaw b e)) }
@@ -294,7 +294,7 @@ impl<F: File> StripReader<F> {
         requires spare { 1 ≤ F.spare self.old.file }
         requires inside { y + count ≤ self.old.header.height }
         requires size { length out.old ≡ count * row_length self.old.header }
-        ensures rows { OnOk result (IfSome (F.bytes self.old.file) (λ b. out.new ≡ rows_of self.old.header b y count)) }
+        ensures rows { OnOk result (IfSome (F.bytes self.old.file) (λ b. out.new ≡ sample_rows self.old.header b y count)) }
         ensures values { OnOk result (AreBytes out.new) }
         ensures failed { IsErr result → Rose (F.faults self.old.file) (F.faults self.new.file) }
         ensures asked { RowsAsked self.old.header y count (is_err result) (F.asked self.old.file) (F.asked self.new.file) }
@@ -318,7 +318,7 @@ impl<F: File> StripReader<F> {
         requires spare { 1 ≤ F.spare self.old.file }
         requires inside { y < self.old.header.height }
         requires size { length out.old ≡ row_length self.old.header }
-        ensures row { OnOk result (IfSome (F.bytes self.old.file) (λ b. out.new ≡ rows_of self.old.header b y 1)) }
+        ensures row { OnOk result (IfSome (F.bytes self.old.file) (λ b. out.new ≡ sample_rows self.old.header b y 1)) }
         ensures values { OnOk result (AreBytes out.new) }
         ensures failed { IsErr result → Rose (F.faults self.old.file) (F.faults self.new.file) }
         ensures asked { RowsAsked self.old.header y 1 (is_err result) (F.asked self.old.file) (F.asked self.new.file) }

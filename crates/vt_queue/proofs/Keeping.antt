@@ -10,7 +10,7 @@ use Rattle.vt_queue.specs.declared.views.PassView.{PassView}
 use Rattle.vt_queue.specs.PassViews.{pass_view, shares_of, kept_view, given_view, joined, spent_view}
 use Rattle.vt_queue.specs.Orders.{placed, gathered}
 use Rattle.vt_queue.specs.Steps.{IsAtStep, Puts, Takes}
-use Rattle.vt_queue.specs.Rules.{IsIdle, KnowsRight, IsKept}
+use Rattle.vt_queue.specs.Rules.{IsIdle, KnowsRight, IsQueueKept}
 use Rattle.vt_queue.proofs.Gathered.{shuffled_as, append_nil, all_at, gathered_more, gathered_same, gathered_less, gathered_new, all_gathered, set_twice, set_here, set_elsewhere, shares_set, shares_new, shares_within, placed_more, placed_below}
 
 module _ {I : Type 0} where
@@ -70,7 +70,7 @@ module _ {I : Type 0} where
   still_right order views port v w at e all = All-set (KnowsRight order) views port w
       (subst (λ l. All (Contains (placed 0 order)) l) (sym e) (all_at (KnowsRight order) views port v all at)) all
 
-  pub learns : (port : ℕ) (v : PassView I) → Learns IsKept port v (IsAtStep v)
+  pub learns : (port : ℕ) (v : PassView I) → Learns IsQueueKept port v (IsAtStep v)
   learns port v items views k at = record {
     gone = k.order.gone;
     knows = all_at (KnowsRight (k.order.gone ++ items)) views port v k.knows at;
@@ -83,7 +83,7 @@ module _ {I : Type 0} where
         (λ y i none. i.takes none) views port v k.idle at (k.whole ∙ sym all)));
   }
 
-  pub puts : (n port : ℕ) (v : PassView I) (x : I) → 0 < v.shares → Pushes IsKept n port v x (Puts v x)
+  pub puts : (n port : ℕ) (v : PassView I) (x : I) → 0 < v.shares → Pushes IsQueueKept n port v x (Puts v x)
   unfolding learns
   puts n port v x live items views room k at =
       let gone : List I = k.order.gone in
@@ -93,7 +93,7 @@ module _ {I : Type 0} where
       let w : PassView I = pass_view v.shares v.known (v.put ++ entry ∷ []) v.took in
       let longer_by : placed 0 more ≡ placed 0 order ++ entry ∷ [] = ap (λ l. placed 0 l) (sym (append_assoc gone items
       (x ∷ []))) ∙ placed_more order x in
-      let after : IsKept (items ++ x ∷ []) (set views port w) = record {
+      let after : IsQueueKept (items ++ x ∷ []) (set views port w) = record {
         order = record {
           gone = gone;
           puts = IsPermutation-trans _ _ _ (shuffled_as _ _ longer_by)
@@ -119,14 +119,14 @@ module _ {I : Type 0} where
         },
       )
 
-  pub takes : (port : ℕ) (v : PassView I) → 0 < v.shares → Pops IsKept port v (Takes v)
+  pub takes : (port : ℕ) (v : PassView I) → 0 < v.shares → Pops IsQueueKept port v (Takes v)
   unfolding learns
   takes port v live x items views k at =
       let gone : List I = k.order.gone in
       let entry : ℕ × I = (length gone, x) in
       let w : PassView I = pass_view v.shares v.known v.put (v.took ++ entry ∷ []) in
       let same : (gone ++ x ∷ []) ++ items ≡ gone ++ x ∷ items = append_assoc gone (x ∷ []) items in
-      let after : IsKept items (set views port w) = record {
+      let after : IsQueueKept items (set views port w) = record {
         order = record {
           gone = gone ++ x ∷ [];
           puts = IsPermutation-trans _ _ _ (shuffled_as _ _ (ap (λ l. placed 0 l) same))
@@ -170,7 +170,7 @@ module _ {I : Type 0} where
   split_same f views port v l r at a b = IsPermutation-trans _ _ _ (gathered_same f views port v l at a) (shuffled_as _ _
       (sym (gathered_new f (set views port l) r b)))
 
-  pub forks : (port : ℕ) (v : PassView I) → 1 < v.shares → Forks IsKept port v (kept_view v) (given_view v)
+  pub forks : (port : ℕ) (v : PassView I) → 1 < v.shares → Forks IsQueueKept port v (kept_view v) (given_view v)
   forks port v many items views k at =
       let order : List I = k.order.gone ++ items in
       let l : PassView I = kept_view v in
@@ -200,7 +200,7 @@ module _ {I : Type 0} where
       (λ l. gathered f l) (sym (set_twice views port other b s apart)))))
 
   pub merges : (port : ℕ) (v : PassView I) (other : ℕ) (u : PassView I) → 0 < v.shares
-      → Merges IsKept port v other u (joined v u) spent_view
+      → Merges IsQueueKept port v other u (joined v u) spent_view
   merges port v other u live items views k at two later =
       let order : List I = k.order.gone ++ items in
       let b : PassView I = joined v u in

@@ -8,17 +8,17 @@ use Rattle.vt_queue.specs.Steps.{IsAtStep}
 
 module _ {I : Type 0} where
   -- What a pass knows.
-  abbrev pub view_of : QueuePass I → PassView I
-  view_of p = view p.pass
+  abbrev pub queue_view_of : QueuePass I → PassView I
+  queue_view_of p = view p.pass
 
   -- How often it, and those that are split off from it, may be split.
-  abbrev pub splits_of : QueuePass I → ℕ
-  splits_of p = p.splits
+  abbrev pub queue_splits_of : QueuePass I → ℕ
+  queue_splits_of p = p.splits
 
   -- It is a pass of this queue, with more shares than it may be split.
-  pub record IsOf (q : Queue I) (p : QueuePass I) : Type 0 where
+  pub record IsPassOfQueue (q : Queue I) (p : QueuePass I) : Type 0 where
     pub ring : IsPassOf q.ring p.pass
-    pub splits : splits_of p < (view_of p).shares
+    pub splits : queue_splits_of p < (queue_view_of p).shares
 
   -- How many items a queue has room for.
   abbrev pub capacity_of : Queue I → ℕ

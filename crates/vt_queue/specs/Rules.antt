@@ -14,7 +14,7 @@ abbrev pub KnowsRight : {I : Type 0} → List I → PassView I → Type 0
 KnowsRight order v = All (Contains (placed 0 order)) v.known
 
 -- What all passes put and took is first in, first out, they have all shares, and what they know is so.
-pub record IsKept {I : Type 0} (items : List I) (views : List (PassView I)) : Type 0 where
+pub record IsQueueKept {I : Type 0} (items : List I) (views : List (PassView I)) : Type 0 where
   pub order : IsFirstInFirstOut (gathered (λ v. v.put) views) (gathered (λ v. v.took) views) items
   pub whole : shares_of views ≡ all_shares
   pub idle : All IsIdle views

@@ -2,7 +2,7 @@ ghost use Rattle.std.specs.Prelude.{◌≡◌, ◌+◌, ◌-◌, ◌/◌, ◌<�
 ghost use Rattle.vt_definitions.specs.Limits.{most_entries};
 ghost use Rattle.vt_queue.specs.PassViews.{first_view, joined, Splits, all_shares, split_part};
 ghost use Rattle.vt_queue.specs.Steps.{Puts, Takes, IsAtStep};
-ghost use Rattle.vt_queue.specs.Queues.{view_of, splits_of, IsOf, capacity_of, WasFull};
+ghost use Rattle.vt_queue.specs.Queues.{queue_view_of, queue_splits_of, IsPassOfQueue, capacity_of, WasFull};
 
 use crate::queue::{Putting, Queue, QueuePass, Sharing, Taking};
 use crossbeam_queue::RuledArrayQueue;
@@ -43,10 +43,10 @@ impl<I> Queue<I> {
     /// An empty queue with room for `capacity` items, from 1 to 4,096, and its one pass.
     pub fn new(alloc: Global, capacity: u32) -> Result<(Queue<I>, QueuePass<I>), NoMemory>
         requires { (1 ≤ capacity) × (capacity ≤ most_entries) }
-        ensures of { IfOk result (λ made. IsOf made.0 made.1) }
+        ensures of { IfOk result (λ made. IsPassOfQueue made.0 made.1) }
         ensures capacity { IfOk result (λ made. capacity_of made.0 ≡ capacity) }
-        ensures view { IfOk result (λ made. view_of made.1 ≡ first_view) }
-        ensures splits { IfOk result (λ made. splits_of made.1 + 1 ≡ all_shares) }
+        ensures view { IfOk result (λ made. queue_view_of made.1 ≡ first_view) }
+        ensures splits { IfOk result (λ made. queue_splits_of made.1 + 1 ≡ all_shares) }
     {
         let (ring, pass) = RuledArrayQueue::ruled(alloc, capacity as usize)?;
         Ok((
@@ -68,13 +68,13 @@ impl<I> Queue<I> {
     /// Splits a pass off, for another thread: it has no puts and takes of its own, and knows what this one put and knew. It is
     /// refused only where this pass has no splits left, and then nothing changed.
     pub fn split(&self, _alloc: Global, pass: &mut QueuePass<I>) -> Result<QueuePass<I>, NoMemory>
-        requires { IsOf self.now pass.old }
-        ensures of { IsOf self.now pass.new }
-        ensures other { IfOk result (λ other. IsOf self.now other) }
-        ensures splits { IfOk result (λ other. Splits (view_of pass.old) (view_of pass.new) (view_of other)) }
-        ensures budget { IfOk result (λ other. splits_of pass.new + splits_of other + 1 ≡ splits_of pass.old) }
-        ensures part { IfOk result (λ other. splits_of other ≡ (splits_of pass.old - 1) / split_part) }
-        ensures refused { OnErr result ((pass.new ≡ pass.old) × (splits_of pass.old ≡ 0)) }
+        requires { IsPassOfQueue self.now pass.old }
+        ensures of { IsPassOfQueue self.now pass.new }
+        ensures other { IfOk result (λ other. IsPassOfQueue self.now other) }
+        ensures splits { IfOk result (λ other. Splits (queue_view_of pass.old) (queue_view_of pass.new) (queue_view_of other)) }
+        ensures budget { IfOk result (λ other. queue_splits_of pass.new + queue_splits_of other + 1 ≡ queue_splits_of pass.old) }
+        ensures part { IfOk result (λ other. queue_splits_of other ≡ (queue_splits_of pass.old - 1) / split_part) }
+        ensures refused { OnErr result ((pass.new ≡ pass.old) × (queue_splits_of pass.old ≡ 0)) }
     {
         if are_spent(pass.splits) {
             return Err(NoMemory);
@@ -90,11 +90,11 @@ impl<I> Queue<I> {
 
     /// Takes a pass in: what it put, took and knew is now this one's. Where no other pass is left, this one knows the queue.
     pub fn join(&self, into: &mut QueuePass<I>, pass: QueuePass<I>)
-        requires { IsOf self.now into.old × IsOf self.now pass }
-        ensures of { IsOf self.now into.new }
-        ensures joined { view_of into.new ≡ joined (view_of into.old) (view_of pass) }
-        ensures splits { splits_of into.new ≡ splits_of into.old + splits_of pass + 1 }
-        ensures at_step { (left : List I) × IsAtStep (view_of into.new) left }
+        requires { IsPassOfQueue self.now into.old × IsPassOfQueue self.now pass }
+        ensures of { IsPassOfQueue self.now into.new }
+        ensures joined { queue_view_of into.new ≡ joined (queue_view_of into.old) (queue_view_of pass) }
+        ensures splits { queue_splits_of into.new ≡ queue_splits_of into.old + queue_splits_of pass + 1 }
+        ensures at_step { (left : List I) × IsAtStep (queue_view_of into.new) left }
     {
         let QueuePass { pass, splits } = pass;
         self.ring.absorb::<Sharing>(&mut into.pass, pass);
@@ -110,12 +110,12 @@ impl<I> Queue<I> {
         pass: &mut QueuePass<I>,
         item: I,
     ) -> Result<(), Full<I>>
-        requires { IsOf self.now pass.old }
-        ensures of { IsOf self.now pass.new × (splits_of pass.new ≡ splits_of pass.old) }
-        ensures puts { OnOk result (Puts (view_of pass.old) item (view_of pass.new)) }
+        requires { IsPassOfQueue self.now pass.old }
+        ensures of { IsPassOfQueue self.now pass.new × (queue_splits_of pass.new ≡ queue_splits_of pass.old) }
+        ensures puts { OnOk result (Puts (queue_view_of pass.old) item (queue_view_of pass.new)) }
         ensures item { IfErr result (λ full. full.item ≡ item) }
-        ensures same { OnErr result (view_of pass.new ≡ view_of pass.old) }
-        ensures full { OnErr result (WasFull self.now (view_of pass.old)) }
+        ensures same { OnErr result (queue_view_of pass.new ≡ queue_view_of pass.old) }
+        ensures full { OnErr result (WasFull self.now (queue_view_of pass.old)) }
     {
         match self.ring.push_as::<Putting, Rt>(rt, &mut pass.pass, item) {
             Ok(()) => Ok(()),
@@ -125,10 +125,10 @@ impl<I> Queue<I> {
 
     /// Takes the first item. It answers `None` only if there was a step of the call at which the queue had no item.
     pub fn take<Rt: Threads + Wait>(&self, rt: &Rt, pass: &mut QueuePass<I>) -> Option<I>
-        requires { IsOf self.now pass.old }
-        ensures of { IsOf self.now pass.new × (splits_of pass.new ≡ splits_of pass.old) }
-        ensures takes { IfSome result (λ item. Takes (view_of pass.old) item (view_of pass.new)) }
-        ensures empty { IfNone result ((view_of pass.new ≡ view_of pass.old) × IsAtStep (view_of pass.new) []) }
+        requires { IsPassOfQueue self.now pass.old }
+        ensures of { IsPassOfQueue self.now pass.new × (queue_splits_of pass.new ≡ queue_splits_of pass.old) }
+        ensures takes { IfSome result (λ item. Takes (queue_view_of pass.old) item (queue_view_of pass.new)) }
+        ensures empty { IfNone result ((queue_view_of pass.new ≡ queue_view_of pass.old) × IsAtStep (queue_view_of pass.new) []) }
     {
         self.ring.pop_as::<Taking, Rt>(rt, &mut pass.pass)
     }

@@ -27,9 +27,9 @@ pub struct OneOrder;
 
 impl<I> Protocol<I, PassView<I>> for OneOrder {
     ghost use Rattle.vt_queue.specs.PassViews.{first_view};
-    ghost use Rattle.vt_queue.specs.Rules.{IsKept};
+    ghost use Rattle.vt_queue.specs.Rules.{IsQueueKept};
 
-    ghost holds = { IsKept };
+    ghost holds = { IsQueueKept };
 
     ghost first = { first_view };
 }

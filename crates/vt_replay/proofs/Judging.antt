@@ -10,7 +10,7 @@ use Rattle.vt_journal.specs.declared.lines.Line.{Line}
 use Rattle.vt_journal.specs.declared.lines.Line.TheVariants.{Begins}
 use Rattle.vt_journal.specs.declared.parse.JournalError.TheVariants.{BadLine}
 use Rattle.vt_journal.specs.JournalText.{Pass, Content, pass_lines, head_lines, content_lines, journal_text}
-use Rattle.vt_journal.specs.JournalFlaws.{IsLawful, IsJournalFlaw}
+use Rattle.vt_journal.specs.JournalFlaws.{IsLawfulJournal, IsJournalFlaw}
 use Rattle.vt_journal.specs.JournalReading.{line_bytes}
 use Rattle.vt_journal.proofs.Contents.{lines_of_content, lawful_has_no_flaw, journal_flaw_unique}
 use Rattle.vt_journal.proofs.SpelledLines.{fields_of-line}
@@ -123,7 +123,7 @@ refused_first s height pictures text line first (Some n) tile flaw named is = re
     least other (inr again) = let low = named.1 other again in omega (arith, is, low)
 
 -- a lawful text: the first refused line is the first that names a picture outside the path
-pub named_first : (s : Shape) (height pictures : ℕ) (text : List ℕ) (c : Content) (number : ℕ) → 1 ≤ s.tile → IsLawful s height c → text ≡ journal_text s c
+pub named_first : (s : Shape) (height pictures : ℕ) (text : List ℕ) (c : Content) (number : ℕ) → 1 ≤ s.tile → IsLawfulJournal s height c → text ≡ journal_text s c
     → NamesOutside pictures text number → ((other : ℕ) → NamesOutside pictures text other → number ≤ other)
     → IsFirstRefused s height pictures text number
 named_first s height pictures text c number tile lawful spelled named low = record { refused = inr named; first = λ other refused. least other refused }
@@ -133,7 +133,7 @@ named_first s height pictures text c number tile lawful spelled named low = reco
     least other (inr again) = low other again
 
 -- a lawful text none of whose lines names a picture outside the path has no refused line
-pub none_refused : (s : Shape) (height pictures : ℕ) (text : List ℕ) (c : Content) → 1 ≤ s.tile → IsLawful s height c → text ≡ journal_text s c
+pub none_refused : (s : Shape) (height pictures : ℕ) (text : List ℕ) (c : Content) → 1 ≤ s.tile → IsLawfulJournal s height c → text ≡ journal_text s c
     → ((number : ℕ) → NamesOutside pictures text number → ⊥) → (line : ℕ) → IsFirstRefused s height pictures text line → ⊥
 none_refused s height pictures text c tile lawful spelled none line first = by first.refused
   where

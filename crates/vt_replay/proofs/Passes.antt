@@ -16,8 +16,8 @@ use Rattle.vt_journal.specs.Changes.{at}
 use Rattle.vt_journal.specs.Lookups.{change_page}
 use Rattle.vt_journal.specs.Kept.{change_frame}
 use Rattle.vt_journal.specs.JournalText.{Pass, Content, changes_of, passes_changes, content_changes, pinned_change, pinned_changes}
-use Rattle.vt_journal.specs.JournalFlaws.{IsLawful}
-use Rattle.vt_journal.specs.Following.{IsWithin, AreEventsAfter, IsPassAfter, ArePassesAfter, IsLawfulByParts}
+use Rattle.vt_journal.specs.JournalFlaws.{IsLawfulJournal}
+use Rattle.vt_journal.specs.Following.{IsChangeWithin, AreEventsAfter, IsPassAfter, ArePassesAfter, IsLawfulByParts}
 use Rattle.vt_journal.proofs.ByParts.{parts_of_lawful, content_pinned}
 use Rattle.vt_journal.proofs.Growing.{lawful_in_turn}
 use Rattle.vt_journal.proofs.Versions.{pinned_stay}
@@ -29,7 +29,7 @@ use Rattle.vt_replay.specs.Playing.{AreRowsWithin, ArePlayed}
 abbrev IsBounded : Shape → Change → Type 0
 IsBounded s change = (change_page change < pages_of s) × (change_frame change < most_frames)
 
-bounded : (s : Shape) (pinned : ℕ) (c : Change) → IsWithin s pinned c → IsBounded s c
+bounded : (s : Shape) (pinned : ℕ) (c : Change) → IsChangeWithin s pinned c → IsBounded s c
 bounded s pinned (Map page frame) h = (h.0, h.1)
 bounded s pinned (Unmap page frame) h = (omega (arith, h.0), h.1)
 
@@ -61,7 +61,7 @@ content_bounded s height c by =
     (passes_bounded s height c.pinned (pinned_changes s c.pinned) 0 0 c.passes by.passes)
 
 -- each change of a lawful journal is within its bounds
-pub change_bounded : (s : Shape) (height : ℕ) (c : Content) → IsLawful s height c → (v : ℕ) (change : Change) → slice_get (content_changes s c) v ≡ Some change
+pub change_bounded : (s : Shape) (height : ℕ) (c : Content) → IsLawfulJournal s height c → (v : ℕ) (change : Change) → slice_get (content_changes s c) v ≡ Some change
     → (change_page change < pages_of s) × (change_frame change < most_frames)
 change_bounded s height c lawful v change is =
     subst (IsBounded s) (get_or_from_slice_get (content_changes s c) v change change is)
@@ -74,7 +74,7 @@ root_behind s limits =
     (reaches_root s 0 (omega arith) limits.least_width limits.least_height limits.some_page).root_is_last
 
 -- a lawful journal may be played
-pub may_be_played : (s : Shape) (height : ℕ) (c : Content) → IsLawful s height c → MayBePlayed s (content_changes s c)
+pub may_be_played : (s : Shape) (height : ℕ) (c : Content) → IsLawfulJournal s height c → MayBePlayed s (content_changes s c)
 may_be_played s height c lawful = record {
   in_pages = λ v change is. (change_bounded s height c lawful v change is).0;
   in_frames = λ v change is. (change_bounded s height c lawful v change is).1;
@@ -82,7 +82,7 @@ may_be_played s height c lawful = record {
 }
 
 -- each version from that of the pinned pages on maps the root
-pub root_mapped : (s : Shape) (height : ℕ) (c : Content) → IsWithinLimits s → IsLawful s height c → (v : ℕ) → c.pinned ≤ v → v ≤ length (content_changes s c)
+pub root_mapped : (s : Shape) (height : ℕ) (c : Content) → IsWithinLimits s → IsLawfulJournal s height c → (v : ℕ) → c.pinned ≤ v → v ≤ length (content_changes s c)
     → IsSome (at (content_changes s c) v (root_of s))
 root_mapped s height c limits lawful v low high =
     let by = parts_of_lawful s height c lawful in
@@ -151,7 +151,7 @@ first_pass s height pinned changes [] h p is = cc
 first_pass s height pinned changes (q ∷ ps) h p is = let same : q ≡ p = cc in subst (λ (x : Pass). x.picture ≡ 0) same (h.0.picture_is.first refl)
 
 -- the passes of a lawful journal are played in their order
-pub are_played : (s : Shape) (height : ℕ) (c : Content) → IsLawful s height c → ArePlayed height c.pinned (length (content_changes s c)) c.passes
+pub are_played : (s : Shape) (height : ℕ) (c : Content) → IsLawfulJournal s height c → ArePlayed height c.pinned (length (content_changes s c)) c.passes
 are_played s height c lawful =
     let by = parts_of_lawful s height c lawful in
     let js = pinned_changes s c.pinned in

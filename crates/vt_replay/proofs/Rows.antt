@@ -12,9 +12,9 @@ use Rattle.vt_journal.specs.declared.changes.RowLine.{RowLine}
 use Rattle.vt_journal.specs.Changes.{at}
 use Rattle.vt_replay_rows.specs.Scenes.{Scene}
 use Rattle.vt_replay_rows.specs.Replays.{HasPixels, IsReplayOf}
-use Rattle.vt_replay_rows.specs.ReplayLookups.{row_of}
+use Rattle.vt_replay_rows.specs.ReplayLookups.{bytes_row}
 use Rattle.vt_replay_rows.specs.Trying.{Under}
-use Rattle.vt_replay.specs.Replayed.{version_of, replayed_row, replayed_rows}
+use Rattle.vt_replay.specs.Replayed.{version_of_row, replayed_row, replayed_rows}
 
 -- bytes are their pieces of so many bytes each, one after another
 pieces_joined : (z n a : ℕ) (f : ℕ → List ℕ) (bytes : List ℕ) → length bytes ≡ n * z → ((x : ℕ) → x < n → take z (drop (x * z) bytes) ≡ f (a + x))
@@ -53,20 +53,20 @@ row_joined d width pixel bytes size has =
 pub rows_are_replayed : (under : Under) (src : Source) (scene : Scene) (changes : List Change) (lines : List RowLine) (i height line : ℕ) (samples : List ℕ)
     → line ≡ texel_length scene.depth * scene.path.width → length samples ≡ height * line → length lines ≡ height
     → ((y : ℕ) (row : RowLine) → slice_get lines y ≡ Some row
-    → HasPixels scene.depth scene.path.width (λ x. under src scene (at changes row.version) i x y) (row_of line samples y))
+    → HasPixels scene.depth scene.path.width (λ x. under src scene (at changes row.version) i x y) (bytes_row line samples y))
     → ((y : ℕ) → y < height → (row : RowLine) × (slice_get lines y ≡ Some row))
     → samples ≡ replayed_rows under src scene changes lines i height
 unfolding replayed_rows replayed_row
 rows_are_replayed under src scene changes lines i height line samples line_is size count has some =
-    pieces_joined line height 0 (λ y. flat_map (λ x. under src scene (at changes (version_of lines y)) i x y)
+    pieces_joined line height 0 (λ y. flat_map (λ x. under src scene (at changes (version_of_row lines y)) i x y)
     (range_with_len 0 scene.path.width)) samples size
     (λ y low.
     (let found = some y low in
     let row = found.0 in
     let cut : y * line + line - y * line ≡ line = omega arith in
-    let piece : take line (drop (y * line) samples) ≡ row_of line samples y = ap (λ (k : ℕ). take k (drop (y * line) samples)) (sym cut) in
+    let piece : take line (drop (y * line) samples) ≡ bytes_row line samples y = ap (λ (k : ℕ). take k (drop (y * line) samples)) (sym cut) in
     let room : y * line + line ≤ length samples = (let m = mul-le (y + 1) line height line (omega (arith, low)) (omega arith) in omega (arith, size, m)) in
-    let full : length (row_of line samples y) ≡ texel_length scene.depth * scene.path.width =
+    let full : length (bytes_row line samples y) ≡ texel_length scene.depth * scene.path.width =
     ap length (sym piece) ∙ (let e : length (take line (drop (y * line) samples)) ≡ line = omega (
       arith,
       length-take line (drop
@@ -74,10 +74,10 @@ rows_are_replayed under src scene changes lines i height line samples line_is si
       length-drop (y * line) samples,
       room,
     ) in e) ∙ line_is in
-    let version : row.version ≡ version_of lines y = sym (ap (λ o. unwrap_or (option_map (λ (l : RowLine). l.version) o) 0) found.1) in
-    piece ∙ row_joined scene.depth scene.path.width (λ x. under src scene (at changes row.version) i x y) (row_of line samples y) full (has y row found.1)
+    let version : row.version ≡ version_of_row lines y = sym (ap (λ o. unwrap_or (option_map (λ (l : RowLine). l.version) o) 0) found.1) in
+    piece ∙ row_joined scene.depth scene.path.width (λ x. under src scene (at changes row.version) i x y) (bytes_row line samples y) full (has y row found.1)
     ∙ ap (λ (v : ℕ). flat_map (λ x. under src scene (at changes v) i x y) (range_with_len 0 scene.path.width)) version
-    ∙ ap (λ (k : ℕ). flat_map (λ x. under src scene (at changes (version_of lines k)) i x k) (range_with_len 0 scene.path.width))
+    ∙ ap (λ (k : ℕ). flat_map (λ x. under src scene (at changes (version_of_row lines k)) i x k) (range_with_len 0 scene.path.width))
     (let e : y ≡ 0 + y = omega arith in e)))
 
 rows_joined : (f : ℕ → List ℕ) (rows : List (List ℕ)) (a : ℕ) → ((y : ℕ) → y < length rows → slice_index_or rows y [] ≡ f (a + y))
@@ -97,13 +97,13 @@ pub replay_is_one : (under : Under) (src : Source) (scene : Scene) (changes : Li
 unfolding replayed_rows replayed_row
 replay_is_one under src scene changes lines i samples count is =
     let first : RowLine = record { row = 0; sampler = 0; version = 0 } in
-    let row : ℕ → List ℕ = λ (y : ℕ). flat_map (λ x. under src scene (at changes (version_of lines y)) i x y)
+    let row : ℕ → List ℕ = λ (y : ℕ). flat_map (λ x. under src scene (at changes (version_of_row lines y)) i x y)
     (range_with_len 0 scene.path.width) in
     let number = is.count in
     is.joined ∙ rows_joined row is.rows 0 (λ y low.
     (let found = slice_get-get_or lines y first (omega (arith, low, number, count)) in
     let line = get_or lines y first in
-    let version : line.version ≡ version_of lines y = sym (ap (λ o. unwrap_or (option_map (λ (l : RowLine). l.version) o) 0) found) in
+    let version : line.version ≡ version_of_row lines y = sym (ap (λ o. unwrap_or (option_map (λ (l : RowLine). l.version) o) 0) found) in
     row_joined scene.depth scene.path.width (λ x. under src scene (at changes line.version) i x y) (slice_index_or is.rows y [])
     (is.full y [] low) (is.replayed y line found)
     ∙ ap (λ (v : ℕ). flat_map (λ x. under src scene (at changes v) i x y) (range_with_len 0 scene.path.width)) version

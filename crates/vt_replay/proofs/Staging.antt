@@ -5,7 +5,7 @@ use Rattle.vt_outside.specs.declared.outside.File.{Ghosts as FileMeanings}
 use Rattle.vt_pages.specs.Shape.{Shape}
 use Rattle.vt_pages.specs.Pages.{pages_of}
 use Rattle.vt_journal.specs.declared.changes.Change.{Change}
-use Rattle.vt_tiles.specs.StoreViews.{StoreView, IsStoreIfTold}
+use Rattle.vt_tiles.specs.StoreViews.{StoreView, IsStoreIfKnown}
 use Rattle.vt_replay_rows.specs.Following.{Follows}
 use Rattle.vt_replay.specs.Playing.{IsStaged}
 use Rattle.vt_replay_rows.specs.ReplayLookups.{AreTiles}
@@ -24,7 +24,7 @@ pub staged_first : {F : Type 0} (g : FileMeanings F) (s r : Shape) (d e width he
     (entries : List ℕ) (version size : ℕ) (slots owners bytes samples counts : List ℕ)
     (store : StoreView F) → r ≡ s → e ≡ d → ks ≡ js → store.shape ≡ s → store.depth ≡ d
     → Follows r ks entries version → AreTiles r e size slots owners bytes (g.bytes store.file)
-    → length samples ≡ height * (texel_length e * width) → length counts ≡ pages_of r → IsStoreIfTold (g.bytes store.file) s d
+    → length samples ≡ height * (texel_length e * width) → length counts ≡ pages_of r → IsStoreIfKnown (g.bytes store.file) s d
     → IsStaged g s d width height js entries version size slots owners bytes samples counts store
 staged_first g s r d e width height js ks entries version size slots owners bytes samples counts store shape depth changes own own_depth follows tiles
     rows pages is =
@@ -36,6 +36,6 @@ staged_first g s r d e width height js ks entries version size slots owners byte
       tiles = tiles;
       samples_size = rows;
       counts_size = pages;
-      store_is = subst (λ (q : Shape). IsStoreIfTold (g.bytes store.file) q e) (sym shape)
-          (subst (λ (n : ℕ). IsStoreIfTold (g.bytes store.file) s n) (sym depth) is);
+      store_is = subst (λ (q : Shape). IsStoreIfKnown (g.bytes store.file) q e) (sym shape)
+          (subst (λ (n : ℕ). IsStoreIfKnown (g.bytes store.file) s n) (sym depth) is);
     })

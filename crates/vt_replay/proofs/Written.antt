@@ -34,8 +34,8 @@ samples_written prefix d width height number given shown p r same h =
     subst (λ (samples : List ℕ). HasWritten (expected_picture prefix (λ _. picture_bytes d width height samples) number ∷ []) p.before.files p.after.files r) same
     (has_written (expected_picture prefix (λ _. picture_bytes d width height given) number ∷ []) p r h)
 
-pub nothing_written : (expected : List ExpectedFile) (told : Option Files) (e : OutsideError) → HasWritten {T = Unit {0}} expected told told (Err e)
-nothing_written expected told e = part_none expected told told refl
+pub nothing_written : (expected : List ExpectedFile) (known : Option Files) (e : OutsideError) → HasWritten {T = Unit {0}} expected known known (Err e)
+nothing_written expected known e = part_none expected known known refl
 
 -- rows of passes among which the picture is not
 lines_stay : (lines : List RowLine) (ps : List Pass) (picture : ℕ) → ((i : ℕ) (q : Pass) → slice_get ps i ≡ Some q → q.picture ≢ picture)

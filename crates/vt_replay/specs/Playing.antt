@@ -8,7 +8,7 @@ use Rattle.vt_journal.specs.declared.changes.Change.{Change}
 use Rattle.vt_journal.specs.declared.changes.RowLine.{RowLine}
 use Rattle.vt_journal.specs.Changes.{at}
 use Rattle.vt_journal.specs.JournalText.{Pass}
-use Rattle.vt_tiles.specs.StoreViews.{StoreView, IsStoreIfTold}
+use Rattle.vt_tiles.specs.StoreViews.{StoreView, IsStoreIfKnown}
 use Rattle.vt_outside.specs.Expectations.{ExpectedFile, with_files, IsPart}
 use Rattle.vt_replay_rows.specs.Following.{Follows}
 use Rattle.vt_replay_rows.specs.ReplayLookups.{AreTiles}
@@ -25,7 +25,7 @@ pub record IsStaged {F : Type 0} (g : FileMeanings F) (s : Shape) (d width heigh
   pub tiles : AreTiles s d size slots owners bytes (g.bytes store.file)
   pub samples_size : length samples ≡ height * (texel_length d * width)
   pub counts_size : length counts ≡ pages_of s
-  pub store_is : IsStoreIfTold (g.bytes store.file) s d
+  pub store_is : IsStoreIfKnown (g.bytes store.file) s d
 
 -- the files exist, or where the call was refused a part of them: some whole, and of the next at most a prefix
 abbrev pub HasWritten : {T : Type 0} → List ExpectedFile → Option Files → Option Files → Result T OutsideError → Type 0

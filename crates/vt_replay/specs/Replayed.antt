@@ -16,8 +16,8 @@ use Rattle.vt_replay_rows.specs.Scenes.{Scene, scene_of}
 use Rattle.vt_replay_rows.specs.Trying.{Under}
 
 -- the version that the line of a row names
-abbrev pub version_of : List RowLine → ℕ → ℕ
-version_of lines y = unwrap_or (option_map (λ line. line.version) (slice_get lines y)) 0
+abbrev pub version_of_row : List RowLine → ℕ → ℕ
+version_of_row lines y = unwrap_or (option_map (λ line. line.version) (slice_get lines y)) 0
 
 -- the bytes of the first pixels of a row of a picture under a page table, as a filter shows them
 unfoldable pub replayed_row : Under → Source → Scene → Table → ℕ → ℕ → ℕ → List ℕ
@@ -26,7 +26,7 @@ replayed_row under src scene m i y columns = flat_map (λ x. under src scene m i
 -- the bytes of the first rows of the replay of a pass of a picture: each row under the page table of the version that its line names
 unfoldable pub replayed_rows : Under → Source → Scene → List Change → List RowLine → ℕ → ℕ → List ℕ
 replayed_rows under src scene changes lines i rows =
-    flat_map (λ y. replayed_row under src scene (at changes (version_of lines y)) i y scene.path.width) (range_with_len 0 rows)
+    flat_map (λ y. replayed_row under src scene (at changes (version_of_row lines y)) i y scene.path.width) (range_with_len 0 rows)
 
 -- the rows of the last pass of a picture, where these were so far
 abbrev pub lines_after : List RowLine → List Pass → ℕ → List RowLine

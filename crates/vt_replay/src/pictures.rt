@@ -7,7 +7,7 @@ ghost use Rattle.vt_outside.specs.Expectations.{AsksNone};
 ghost use Rattle.vt_replay_rows.specs.Replays.{pixel_under};
 ghost use Rattle.vt_replay_rows.specs.Following.{IsReadOn};
 ghost use Rattle.vt_replay.specs.Flaws.{IsFirstRefused};
-ghost use Rattle.vt_replay.specs.Outcomes.{Leaves, IsClosed, replay_answer};
+ghost use Rattle.vt_replay.specs.Outcomes.{LeavesReplay, IsStoreClosed, replay_answer};
 
 use crate::error::ReplayError;
 use crate::judge::judged;
@@ -36,13 +36,13 @@ pub fn replay<Rt: Threads + Sync, D: Folder>(
     journal: &[u8],
     prefix: &str,
 ) -> Result<u32, ReplayError>
-    ensures leaves { Leaves pixel_under store.shape store.depth (D.File.bytes store.file) path.now journal.now prefix.now
+    ensures leaves { LeavesReplay pixel_under store.shape store.depth (D.File.bytes store.file) path.now journal.now prefix.now
         (D.files folder.old) (D.files folder.new) result }
     ensures refused { (line : ℕ) → IsFirstRefused store.shape path.now.height (length path.now.cameras) journal.now line
         → (result ≡ Err (ReplayError.BadJournal line)) ⊎ (result ≡ Err ReplayError.NoMemory) }
     ensures failed { result ≡ Err ReplayError.Failed
         → Rose (added (D.faults folder.old) (D.File.faults store.file)) (D.faults folder.new) }
-    ensures closed { IsClosed store.shape store.depth (D.File.name store.file) (D.File.asked store.file)
+    ensures closed { IsStoreClosed store.shape store.depth (D.File.name store.file) (D.File.asked store.file)
         (D.asked folder.old) (D.asked folder.new) }
     ensures faults { added (D.faults folder.old) (D.File.faults store.file) ≤ D.faults folder.new }
 {
@@ -59,13 +59,13 @@ pub fn replay_by<Rt: Threads + Sync, P: Filter + Sync, D: Folder>(
     journal: &[u8],
     prefix: &str,
 ) -> Result<u32, ReplayError>
-    ensures leaves { Leaves P.under store.shape store.depth (D.File.bytes store.file) path.now journal.now prefix.now
+    ensures leaves { LeavesReplay P.under store.shape store.depth (D.File.bytes store.file) path.now journal.now prefix.now
         (D.files folder.old) (D.files folder.new) result }
     ensures refused { (line : ℕ) → IsFirstRefused store.shape path.now.height (length path.now.cameras) journal.now line
         → (result ≡ Err (ReplayError.BadJournal line)) ⊎ (result ≡ Err ReplayError.NoMemory) }
     ensures failed { result ≡ Err ReplayError.Failed
         → Rose (added (D.faults folder.old) (D.File.faults store.file)) (D.faults folder.new) }
-    ensures closed { IsClosed store.shape store.depth (D.File.name store.file) (D.File.asked store.file)
+    ensures closed { IsStoreClosed store.shape store.depth (D.File.name store.file) (D.File.asked store.file)
         (D.asked folder.old) (D.asked folder.new) }
     ensures faults { added (D.faults folder.old) (D.File.faults store.file) ≤ D.faults folder.new }
 {
@@ -85,7 +85,7 @@ fn replay_open<Rt: Threads + Sync, P: Filter + Sync, D: Folder>(
     journal: &[u8],
     prefix: &str,
 ) -> Result<u32, ReplayError>
-    ensures leaves { Leaves P.under store.old.shape store.old.depth (D.File.bytes store.old.file) path.now journal.now prefix.now
+    ensures leaves { LeavesReplay P.under store.old.shape store.old.depth (D.File.bytes store.old.file) path.now journal.now prefix.now
         (D.files folder.old) (D.files folder.new) result }
     ensures refused { (line : ℕ) → IsFirstRefused store.old.shape path.now.height (length path.now.cameras) journal.now line
         → (result ≡ Err (ReplayError.BadJournal line)) ⊎ (result ≡ Err ReplayError.NoMemory) }

@@ -8,7 +8,7 @@ ghost use Rattle.vt_ppm.specs.Picture.{picture_bytes};
 ghost use Rattle.vt_journal.specs.declared.changes.RowLine.{RowLine};
 ghost use Rattle.vt_journal.specs.Changes.{at};
 ghost use Rattle.vt_journal.specs.JournalText.{Pass, content_changes};
-ghost use Rattle.vt_journal.specs.JournalFlaws.{IsLawful};
+ghost use Rattle.vt_journal.specs.JournalFlaws.{IsLawfulJournal};
 ghost use Rattle.vt_tiles.specs.Format.{stored};
 ghost use Rattle.vt_outside.specs.Effects.{folder_effect};
 ghost use Rattle.vt_outside.specs.Expectations.{AsksNone};
@@ -17,7 +17,7 @@ ghost use Rattle.vt_replay_rows.specs.Scenes.{scene_of};
 ghost use Rattle.vt_replay_rows.specs.Replays.{HasPixels};
 ghost use Rattle.vt_replay_rows.specs.Following.{IsReadOn, Follows, MayBePlayed};
 ghost use Rattle.vt_replay.specs.Playing.{IsStaged, AreRowsWithin, ArePlayed, HasWritten};
-ghost use Rattle.vt_replay_rows.specs.ReplayLookups.{row_of, AreTiles};
+ghost use Rattle.vt_replay_rows.specs.ReplayLookups.{bytes_row, AreTiles};
 ghost use Rattle.vt_replay.specs.Replayed.{replayed_rows, pictures_of, replay_file, expected_replay};
 
 use crate::stream::slots_for;
@@ -88,8 +88,8 @@ fn first_stage<Rt: Threads>(
     requires { IsDepth depth }
     ensures first { IfOk result (λ stage. stage.table.version ≡ 0) }
     ensures follows { IfOk result (λ stage. Follows geometry.now journal.now.changes stage.table.entries.items stage.table.version) }
-    ensures tiles { IfOk result (λ stage. (told : Option (List ℕ)) → AreTiles geometry.now depth stage.tiles.size
-        stage.tiles.slots.items stage.tiles.owners.items stage.tiles.bytes.items told) }
+    ensures tiles { IfOk result (λ stage. (known : Option (List ℕ)) → AreTiles geometry.now depth stage.tiles.size
+        stage.tiles.slots.items stage.tiles.owners.items stage.tiles.bytes.items known) }
     ensures samples { IfOk result (λ stage. length stage.samples.items
         ≡ path.now.height * (texel_length depth * path.now.width)) }
     ensures counts { IfOk result (λ stage. length stage.counts.items ≡ pages_of geometry.now) }
@@ -133,10 +133,10 @@ fn show_version<Rt: Threads + Sync, P: Filter + Sync, F: File>(
         → let scene = scene_of shot.now.geometry.now shot.now.depth shot.now.path.now in
         HasPixels shot.now.depth shot.now.path.now.width
         (λ x. P.under (stored b) scene (at journal.now.changes version) shot.now.picture x y)
-        (row_of (texel_length shot.now.depth * shot.now.path.now.width) stage.new.samples.items y)) }
+        (bytes_row (texel_length shot.now.depth * shot.now.path.now.width) stage.new.samples.items y)) }
     ensures kept { OnOk result ((y : ℕ) (row : RowLine) → slice_get pass.now.rows.elements y ≡ Some row → row.version ≢ version
         → let line = texel_length shot.now.depth * shot.now.path.now.width in
-        row_of line stage.new.samples.items y ≡ row_of line stage.old.samples.items y) }
+        bytes_row line stage.new.samples.items y ≡ bytes_row line stage.old.samples.items y) }
     ensures failed { result ≡ Err OutsideError.Failed → Rose (F.faults store.old.file) (F.faults store.new.file) }
     ensures read { IsReadOn F.File store.old store.new }
 {
@@ -345,7 +345,7 @@ pub(crate) fn play<Rt: Threads + Sync, P: Filter + Sync, D: Folder>(
     text: &JournalText,
     prefix: &str,
 ) -> Result<u32, OutsideError>
-    requires lawful { IsLawful store.old.shape path.now.height text.now.content }
+    requires lawful { IsLawfulJournal store.old.shape path.now.height text.now.content }
     requires changes { text.now.changes ≡ content_changes store.old.shape text.now.content }
     requires in_path { (i : ℕ) (pass : Pass) → slice_get text.now.content.passes i ≡ Some pass
         → pass.picture < length path.now.cameras }

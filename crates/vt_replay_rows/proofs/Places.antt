@@ -8,7 +8,7 @@ use Rattle.std.proofs.lemmas.Bool.{cases_lt}
 use Rattle.std.proofs.lemmas.Slice.{between-put_mid}
 use borrow.Rule.Slice.PartMut.{put_mid}
 use Rattle.vt_table.proofs.Rooms.{before_mid, behind_mid}
-use Rattle.vt_replay_rows.specs.ReplayLookups.{row_of}
+use Rattle.vt_replay_rows.specs.ReplayLookups.{bytes_row}
 
 -- a list that was written through a slice of all of it
 pub written_back : (len : ℕ) (new old : List ℕ) → length new ≡ len → length old ≡ len → take len (new ++ drop (length new) old) ≡ new
@@ -22,18 +22,18 @@ row_room y height line room low size = let m = mul-le (y + 1) line height line (
 
 -- the row that was written
 pub row_written : (wide line y k height : ℕ) (old new : List ℕ) → wide ≡ line → y < height → length old ≡ height * line → length new ≡ line
-    → row_of wide (put_mid (y * line) k old new) y ≡ new
+    → bytes_row wide (put_mid (y * line) k old new) y ≡ new
 row_written wide line y k height old new same low size full =
     let room = row_room y height line (length old) low size in
-    ap (λ (n : ℕ). row_of n (put_mid (y * line) k old new) y) same
+    ap (λ (n : ℕ). bytes_row n (put_mid (y * line) k old new) y) same
     ∙ between-put_mid (y * line) k old new (y * line + line) (omega (arith, room)) (omega (arith, full))
 
 -- and another one
 pub row_other : (wide line y z k height : ℕ) (old new : List ℕ) → wide ≡ line → y < height → length old ≡ height * line → length new ≡ line → k ≡ line
-    → z ≢ y → row_of wide (put_mid (y * line) k old new) z ≡ row_of wide old z
+    → z ≢ y → bytes_row wide (put_mid (y * line) k old new) z ≡ bytes_row wide old z
 row_other wide line y z k height old new same low size full count other =
     let room = row_room y height line (length old) low size in
-    ap (λ (n : ℕ). row_of n (put_mid (y * line) k old new) z) same ∙
+    ap (λ (n : ℕ). bytes_row n (put_mid (y * line) k old new) z) same ∙
     elim (cases_lt z y) [
       | inl before ↦
           let m = mul-le (z + 1) line y line (omega (arith, before)) (omega arith) in
@@ -42,7 +42,7 @@ row_other wide line y z k height old new same low size full count other =
           let m = mul-le (y + 1) line z line (omega (arith, past, other)) (omega arith) in
           behind_mid (y * line) k old new (z * line) (z * line + line) (omega (arith, room)) (omega (arith, full, count)) (omega (arith, m, count))
     ]
-    ∙ sym (ap (λ (n : ℕ). row_of n old z) same)
+    ∙ sym (ap (λ (n : ℕ). bytes_row n old z) same)
 
 -- two numbers that are not the same are told apart
 pub told_apart : (p q : ℕ) → p ≢ q → (p == q) ≡ false

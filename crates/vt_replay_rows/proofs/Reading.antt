@@ -12,8 +12,8 @@ use Rattle.vt_tiles.specs.Places.{IsTilePlace, TileAsked}
 use Rattle.vt_tiles.specs.StoreViews.{StoreView}
 use Rattle.vt_replay_rows.specs.Following.{AreTilesAsked, IsReadOn}
 
-asked_none : (s : Shape) (d : ℕ) (told : Option (List Place)) → AreTilesAsked s d told told
-asked_none s d told = record { places = []; are = All-nil (IsTilePlace s d); asked = same told }
+asked_none : (s : Shape) (d : ℕ) (known : Option (List Place)) → AreTilesAsked s d known known
+asked_none s d known = record { places = []; are = All-nil (IsTilePlace s d); asked = same known }
   where
     same : (o : Option (List Place)) → o ≡ option_map (λ old. old ++ []) o
     same None = refl

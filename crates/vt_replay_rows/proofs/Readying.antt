@@ -8,14 +8,14 @@ use Rattle.vt_replay_rows.specs.Following.{IsReadOn, IsReplayReady}
 use Rattle.vt_replay_rows.specs.ReplayLookups.{IsReplayLookup, AreTiles}
 
 -- tiles of the same bytes
-pub tiles_same : (s : Shape) (d size n : ℕ) (slots owners bytes more_slots more_owners more_bytes : List ℕ) (told : Option (List ℕ))
+pub tiles_same : (s : Shape) (d size n : ℕ) (slots owners bytes more_slots more_owners more_bytes : List ℕ) (known : Option (List ℕ))
     → n ≡ size → more_slots ≡ slots → more_owners ≡ owners → more_bytes ≡ bytes
-    → AreTiles s d size slots owners bytes told → AreTiles s d n more_slots more_owners more_bytes told
-tiles_same s d size n slots owners bytes more_slots more_owners more_bytes told a b c e h =
-    subst (λ (k : ℕ). AreTiles s d k more_slots more_owners more_bytes told) (sym a)
-    (subst (λ (l : List ℕ). AreTiles s d size l more_owners more_bytes told) (sym b)
-    (subst (λ (l : List ℕ). AreTiles s d size slots l more_bytes told) (sym c)
-    (subst (λ (l : List ℕ). AreTiles s d size slots owners l told) (sym e) h)))
+    → AreTiles s d size slots owners bytes known → AreTiles s d n more_slots more_owners more_bytes known
+tiles_same s d size n slots owners bytes more_slots more_owners more_bytes known a b c e h =
+    subst (λ (k : ℕ). AreTiles s d k more_slots more_owners more_bytes known) (sym a)
+    (subst (λ (l : List ℕ). AreTiles s d size l more_owners more_bytes known) (sym b)
+    (subst (λ (l : List ℕ). AreTiles s d size slots l more_bytes known) (sym c)
+    (subst (λ (l : List ℕ). AreTiles s d size slots owners l known) (sym e) h)))
 
 -- the store was read on, and the set holds tiles of it
 pub ready_after : {F : Type 0} (g : FileMeanings F) (s : Shape) (d : ℕ) (entries : List ℕ) (size n : ℕ)

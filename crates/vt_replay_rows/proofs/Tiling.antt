@@ -12,7 +12,7 @@ use Rattle.vt_journal.specs.Changes.{Table, with_entry}
 use Rattle.vt_journal.specs.Kept.{entry_of, entries_of}
 use Rattle.vt_journal.proofs.Versions.{same_page, entry-same, entry-other}
 use Rattle.vt_tiles.specs.Format.{tile_start, tile_length}
-use Rattle.vt_replay_rows.specs.ReplayLookups.{row_of, AreTiles}
+use Rattle.vt_replay_rows.specs.ReplayLookups.{bytes_row, AreTiles}
 
 -- numbers that are all 0 give no entry
 pub no_entries : (numbers : List ℕ) (n k : ℕ) → numbers ≡ replicate n 0 → entries_of numbers k ≡ None
@@ -21,9 +21,9 @@ no_entries numbers n k all = ap entry_of (zero_at (cases_lt k n)) where
   zero_at (inl below) = ap (λ (l : List ℕ). get_or l k 0) all ∙ get_or-replicate n k 0 0 below
   zero_at (inr past) = ap (λ (l : List ℕ). get_or l k 0) all ∙ get_or_past (replicate n 0) k 0 (omega (arith, length-replicate {A = ℕ} n 0))
 
-pub tiles_first : (s : Shape) (d size n : ℕ) (slots owners bytes : List ℕ) (told : Option (List ℕ)) → size ≡ tile_length s d → length slots ≡ pages_of s
-    → length owners ≡ n → 1 ≤ n → n ≤ most_frame_texels → length bytes ≡ n * size → owners ≡ replicate n 0 → AreTiles s d size slots owners bytes told
-tiles_first s d size n slots owners bytes told is pages count some few room none = record {
+pub tiles_first : (s : Shape) (d size n : ℕ) (slots owners bytes : List ℕ) (known : Option (List ℕ)) → size ≡ tile_length s d → length slots ≡ pages_of s
+    → length owners ≡ n → 1 ≤ n → n ≤ most_frame_texels → length bytes ≡ n * size → owners ≡ replicate n 0 → AreTiles s d size slots owners bytes known
+tiles_first s d size n slots owners bytes known is pages count some few room none = record {
   size_is = is;
   all_slots = pages;
   some_owner = omega (arith, count, some);
@@ -32,21 +32,21 @@ tiles_first s d size n slots owners bytes told is pages count some few room none
   holds = λ slot page owned low. absurd (let e : None ≡ Some page = sym (no_entries owners n slot none) ∙ owned in cc);
 }
 
-pub tiles_under : (s t : Shape) (d e size : ℕ) (slots owners bytes : List ℕ) (told also : Option (List ℕ)) → t ≡ s → e ≡ d → also ≡ told
-    → AreTiles t e size slots owners bytes also → AreTiles s d size slots owners bytes told
-tiles_under s t d e size slots owners bytes told also shape depth same h =
-    subst (λ (r : Shape). AreTiles r d size slots owners bytes told) shape
-    (subst (λ (k : ℕ). AreTiles t k size slots owners bytes told) depth
+pub tiles_under : (s t : Shape) (d e size : ℕ) (slots owners bytes : List ℕ) (known also : Option (List ℕ)) → t ≡ s → e ≡ d → also ≡ known
+    → AreTiles t e size slots owners bytes also → AreTiles s d size slots owners bytes known
+tiles_under s t d e size slots owners bytes known also shape depth same h =
+    subst (λ (r : Shape). AreTiles r d size slots owners bytes known) shape
+    (subst (λ (k : ℕ). AreTiles t k size slots owners bytes known) depth
     (subst (λ (o : Option (List ℕ)). AreTiles t e size slots owners bytes o) same h))
 
 -- the tile of a page was read into a slot
-pub tiles_more : (s : Shape) (d size slot page : ℕ) (slots owners bytes more_slots more_owners more_bytes : List ℕ) (told : Option (List ℕ))
-    → AreTiles s d size slots owners bytes told → length more_slots ≡ length slots → length more_owners ≡ length owners → length more_bytes ≡ length bytes
+pub tiles_more : (s : Shape) (d size slot page : ℕ) (slots owners bytes more_slots more_owners more_bytes : List ℕ) (known : Option (List ℕ))
+    → AreTiles s d size slots owners bytes known → length more_slots ≡ length slots → length more_owners ≡ length owners → length more_bytes ≡ length bytes
     → entries_of more_owners ≡ with_entry (entries_of owners) slot (Some page)
-    → ((z : ℕ) → z ≢ slot → row_of size more_bytes z ≡ row_of size bytes z)
-    → IfSome told (λ b. IsPiece b (tile_start s d page) (row_of size more_bytes slot))
-    → AreTiles s d size more_slots more_owners more_bytes told
-tiles_more s d size slot page slots owners bytes more_slots more_owners more_bytes told h all_slots all_owners all_bytes owned others piece = record {
+    → ((z : ℕ) → z ≢ slot → bytes_row size more_bytes z ≡ bytes_row size bytes z)
+    → IfSome known (λ b. IsPiece b (tile_start s d page) (bytes_row size more_bytes slot))
+    → AreTiles s d size more_slots more_owners more_bytes known
+tiles_more s d size slot page slots owners bytes more_slots more_owners more_bytes known h all_slots all_owners all_bytes owned others piece = record {
   size_is = h.size_is;
   all_slots = all_slots ∙ h.all_slots;
   some_owner = let a = h.some_owner in omega (arith, a, all_owners);
@@ -59,10 +59,10 @@ tiles_more s d size slot page slots owners bytes more_slots more_owners more_byt
             let here : with_entry (entries_of owners) slot (Some page) slot ≡ Some q =
             ap (with_entry (entries_of owners) slot (Some page)) (sym same) ∙ now in
             let whose : page ≡ q = same_Some page q (sym (entry-same (entries_of owners) slot (Some page)) ∙ here) in
-            subst (λ (k : ℕ). IfSome told (λ b. IsPiece b (tile_start s d q) (row_of size more_bytes k))) (sym same)
-            (subst (λ (k : ℕ). IfSome told (λ b. IsPiece b (tile_start s d k) (row_of size more_bytes slot))) whose piece)
+            subst (λ (k : ℕ). IfSome known (λ b. IsPiece b (tile_start s d q) (bytes_row size more_bytes k))) (sym same)
+            (subst (λ (k : ℕ). IfSome known (λ b. IsPiece b (tile_start s d k) (bytes_row size more_bytes slot))) whose piece)
         | inr other ↦
-            subst (λ (t : List ℕ). IfSome told (λ b. IsPiece b (tile_start s d q) t)) (sym (others z other))
+            subst (λ (t : List ℕ). IfSome known (λ b. IsPiece b (tile_start s d q) t)) (sym (others z other))
             (h.holds z q (sym (entry-other (entries_of owners) slot z (Some page) other) ∙ now) (omega (arith, low, all_owners)))
       ];
 }

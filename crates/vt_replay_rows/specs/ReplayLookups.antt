@@ -12,8 +12,8 @@ use Rattle.vt_journal.specs.Kept.{entries_of}
 use Rattle.vt_tiles.specs.Format.{tile_start, tile_length}
 
 -- row y of bytes, of which each row has so many
-abbrev pub row_of : ℕ → List ℕ → ℕ → List ℕ
-row_of line samples y = slice_range samples (y * line) (y * line + line)
+abbrev pub bytes_row : ℕ → List ℕ → ℕ → List ℕ
+bytes_row line samples y = slice_range samples (y * line) (y * line + line)
 
 -- the tile of a page is in a slot: the page is noted to be there, and the slot is the page's
 pub record IsIn (slots owners : List ℕ) (page slot : ℕ) : Type 0 where
@@ -29,16 +29,16 @@ pub record IsTileOf (size : ℕ) (slots owners bytes : List ℕ) (page : ℕ) (t
   pub slot : ℕ
   pub in_slot : IsIn slots owners page slot
   pub full : length tile ≡ size
-  pub is : tile ≡ row_of size bytes slot
+  pub is : tile ≡ bytes_row size bytes slot
 
--- a set of tiles: for each page the slot where it may be, for each slot the page whose tile it has, which is the store's where that is told
-pub record AreTiles (s : Shape) (d size : ℕ) (slots owners bytes : List ℕ) (told : Option (List ℕ)) : Type 0 where
+-- a set of tiles: for each page the slot where it may be, for each slot the page whose tile it has, which is the store's where that is known
+pub record AreTiles (s : Shape) (d size : ℕ) (slots owners bytes : List ℕ) (known : Option (List ℕ)) : Type 0 where
   pub size_is : size ≡ tile_length s d
   pub all_slots : length slots ≡ pages_of s
   pub some_owner : 1 ≤ length owners
   pub few_owners : length owners ≤ most_frame_texels
   pub all_bytes : length bytes ≡ length owners * size
-  pub holds : (slot page : ℕ) → entries_of owners slot ≡ Some page → slot < length owners → IfSome told (λ b. IsPiece b (tile_start s d page) (row_of size bytes slot))
+  pub holds : (slot page : ℕ) → entries_of owners slot ≡ Some page → slot < length owners → IfSome known (λ b. IsPiece b (tile_start s d page) (bytes_row size bytes slot))
 
 -- the shape of the pages, the depth of the samples and the version of the table; the table's entries, the set's slots, owners and bytes; and
 -- whether a tile was missed
@@ -74,16 +74,16 @@ entry_number None = 0
 entry_number (Some frame) = frame + 1
 
 -- the tile of a page is loaded and has a word at a place
-abbrev pub HasWord : ReplayLookupView → ℕ → ℕ → ℕ → Type 0
-HasWord v page place word = (slot : ℕ) × IsIn v.slots v.owners page slot × (word ≡ word_at v.depth (row_of v.size v.bytes slot) place)
+abbrev pub HasTileWord : ReplayLookupView → ℕ → ℕ → ℕ → Type 0
+HasTileWord v page place word = (slot : ℕ) × IsIn v.slots v.owners page slot × (word ≡ word_at v.depth (bytes_row v.size v.bytes slot) place)
 
 -- a note is true: it tells the number of a page's entry, or a word of the page that a frame has; and if no tile was missed, the page's tile is at
 -- hand
-abbrev pub IsTrueOf : ReplayLookupView → Note → Type 0
-IsTrueOf v (EntryNote version page entry) =
+abbrev pub IsTrueOfTiles : ReplayLookupView → Note → Type 0
+IsTrueOfTiles v (EntryNote version page entry) =
     (entry ≡ entry_number (entries_of v.entries page)) × (v.missed ≡ false → 1 ≤ entry → IsHeld v.slots v.owners page)
-IsTrueOf v (WordNote version frame place word) =
-    v.missed ≡ false → (page : ℕ) → entries_of v.entries page ≡ Some frame → HasWord v page place word
+IsTrueOfTiles v (WordNote version frame place word) =
+    v.missed ≡ false → (page : ℕ) → entries_of v.entries page ≡ Some frame → HasTileWord v page place word
 
 -- a page serves another: it is the finest page of the other's line that a table maps (van Waveren 2012)
 pub record Serves (s : Shape) (m : Table) (p : ℕ) (found : Found) : Type 0 where

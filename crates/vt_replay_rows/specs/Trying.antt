@@ -10,7 +10,7 @@ use Rattle.vt_tiles.specs.Format.{stored}
 use Rattle.vt_tiles.specs.StoreViews.{IsStore}
 use Rattle.vt_pictures.specs.Scenes.{Scene, scene_of}
 use Rattle.vt_pictures.specs.Replays.{HasPixels}
-use Rattle.vt_replay_rows.specs.ReplayLookups.{ReplayLookupView, AreTiles, row_of}
+use Rattle.vt_replay_rows.specs.ReplayLookups.{ReplayLookupView, AreTiles, bytes_row}
 use Rattle.vt_replay_rows.specs.declared.table.PageTable.{PageTable}
 use Rattle.vt_replay_rows.specs.declared.tiles.Tiles.{Tiles}
 
@@ -32,18 +32,18 @@ replay_lookup_of s d table tiles = record {
   missed = false;
 }
 
--- the tiles that are looked at are those of the store whose bytes are told
-abbrev pub HoldsTiles : Shape → ℕ → ReplayLookupView → Option (List ℕ) → Type 0
-HoldsTiles s d v told = AreTiles s d v.size v.slots v.owners v.bytes told
+-- the tiles that are looked at are those of the store whose bytes are known
+abbrev pub HoldsStoreTiles : Shape → ℕ → ReplayLookupView → Option (List ℕ) → Type 0
+HoldsStoreTiles s d v known = AreTiles s d v.size v.slots v.owners v.bytes known
 
--- bytes are those of row y of a picture under a page table, as a filter shows its pixels of the store whose bytes are told
+-- bytes are those of row y of a picture under a page table, as a filter shows its pixels of the store whose bytes are known
 abbrev pub ShowsRow : Under → Scene → Table → Option (List ℕ) → ℕ → ℕ → List ℕ → Type 0
-ShowsRow under scene m told i y bytes = (b : List ℕ) → told ≡ Some b → IsStore b scene.shape scene.depth
+ShowsRow under scene m known i y bytes = (b : List ℕ) → known ≡ Some b → IsStore b scene.shape scene.depth
     → HasPixels scene.depth scene.path.width (λ x. under (stored b) scene m i x y) bytes
 
 -- by marks of the rows that are left to be drawn, a row is left
-abbrev pub IsLeft : List Bool → ℕ → Type 0
-IsLeft left k = slice_index_or left k false ≡ true
+abbrev pub IsRowLeft : List Bool → ℕ → Type 0
+IsRowLeft left k = slice_index_or left k false ≡ true
 
 -- by the same, a row is not left
 abbrev pub IsDone : List Bool → ℕ → Type 0
@@ -52,8 +52,8 @@ IsDone left k = slice_index_or left k false ≡ false
 -- rows that were left before and are no more show what they are to show, and rows that were not left are as before; their numbers count from a first
 -- one
 pub record AreTried (line first : ℕ) (shows : ℕ → List ℕ → Type 0) (left after : List Bool) (samples new : List ℕ) : Type 0 where
-  pub kept : (k : ℕ) → IsDone left k → IsDone after k × (row_of line new k ≡ row_of line samples k)
-  pub drawn : (k : ℕ) → IsLeft left k → IsDone after k → shows (first + k) (row_of line new k)
+  pub kept : (k : ℕ) → IsDone left k → IsDone after k × (bytes_row line new k ≡ bytes_row line samples k)
+  pub drawn : (k : ℕ) → IsRowLeft left k → IsDone after k → shows (first + k) (bytes_row line new k)
 
 -- so many rows of a picture, from a first one on, may be drawn over what is looked at, into so many bytes
 pub record MayTry (shot : Shot) (v : ReplayLookupView) (first rows bytes : ℕ) : Type 0 where
@@ -65,7 +65,7 @@ pub record MayTry (shot : Shot) (v : ReplayLookupView) (first rows bytes : ℕ) 
   pub room : bytes ≡ rows * (texel_length shot.depth * shot.path.now.width)
 
 -- such rows were drawn as far as the loaded tiles go, whatever store these are of
-abbrev pub HasTried : Under → Shot → ReplayLookupView → ℕ → List Bool → List Bool → List ℕ → List ℕ → Type 0
-HasTried under shot v first left after samples new = (told : Option (List ℕ)) → HoldsTiles shot.geometry.now shot.depth v told
+abbrev pub HasTriedRows : Under → Shot → ReplayLookupView → ℕ → List Bool → List Bool → List ℕ → List ℕ → Type 0
+HasTriedRows under shot v first left after samples new = (known : Option (List ℕ)) → HoldsStoreTiles shot.geometry.now shot.depth v known
     → AreTried (texel_length shot.depth * shot.path.now.width) first
-    (ShowsRow under (scene_of shot.geometry.now shot.depth shot.path.now) (entries_of v.entries) told shot.picture) left after samples new
+    (ShowsRow under (scene_of shot.geometry.now shot.depth shot.path.now) (entries_of v.entries) known shot.picture) left after samples new

@@ -9,7 +9,7 @@ ghost use Rattle.vt_journal.specs.Kept.{entries_of};
 ghost use Rattle.vt_pictures.specs.Scenes.{scene_of};
 ghost use Rattle.vt_replay_rows.specs.Following.{IsReadOn, IsReplayReady};
 ghost use Rattle.vt_replay_rows.specs.ReplayLookups.{IsReplayLookup, AreTiles};
-ghost use Rattle.vt_replay_rows.specs.Trying.{replay_lookup_of, ShowsRow, AreTried, MayTry, HasTried};
+ghost use Rattle.vt_replay_rows.specs.Trying.{replay_lookup_of, ShowsRow, AreTried, MayTry, HasTriedRows};
 
 use crate::draw::{Tried, bring_all, clear, try_line};
 use crate::noted::Gathered;
@@ -115,7 +115,7 @@ fn try_next<P: Filter>(
     requires within { k < length left.old }
     requires pages { length counts.old ≡ pages_of shot.now.geometry.now }
     requires room { (p : ℕ) → p < length counts.old → slice_index counts.old p + 4 * shot.now.path.now.width < 2 ^ 32 }
-    ensures tried { HasTried P.under shot.now replay_lookup.now first left.old left.new samples.old samples.new }
+    ensures tried { HasTriedRows P.under shot.now replay_lookup.now first left.old left.new samples.old samples.new }
     ensures counted { (p : ℕ) → p < length counts.new
         → slice_index counts.new p ≤ slice_index counts.old p + 4 * shot.now.path.now.width }
 {
@@ -144,7 +144,7 @@ fn try_rows<P: Filter>(
 )
     requires may { MayTry shot.now replay_lookup.now first (length left.old) (length samples.old) }
     requires pages { length counts.old ≡ pages_of shot.now.geometry.now }
-    ensures { HasTried P.under shot.now replay_lookup.now first left.old left.new samples.old samples.new }
+    ensures { HasTriedRows P.under shot.now replay_lookup.now first left.old left.new samples.old samples.new }
 {
     clear(counts);
     let width = shot.path.width();
@@ -166,7 +166,7 @@ fn try_part<P: Filter>(
     samples: &mut [u8],
 )
     requires { MayTry shot.now replay_lookup.now first (length left.old) (length samples.old) }
-    ensures { HasTried P.under shot.now replay_lookup.now first left.old left.new samples.old samples.new }
+    ensures { HasTriedRows P.under shot.now replay_lookup.now first left.old left.new samples.old samples.new }
 {
     part.seen = Seen::new();
     let counts = part.counts.as_mut_slice();
@@ -227,7 +227,7 @@ fn try_beside<Rt: Threads + Sync, P: Filter + Sync>(
 )
     requires may { MayTry shot.now lookup.now first (length left.old) (length samples.old) }
     requires threads { (1 ≤ threads) × (threads ≤ length parts.old) }
-    ensures tried { HasTried P.under shot.now lookup.now first left.old left.new samples.old samples.new }
+    ensures tried { HasTriedRows P.under shot.now lookup.now first left.old left.new samples.old samples.new }
 {
     if threads < 2 {
         try_part::<P>(lookup, shot, first, &mut parts[0], left, samples);
@@ -248,13 +248,13 @@ fn try_beside<Rt: Threads + Sync, P: Filter + Sync>(
         &mut || -> ()
             requires { IsSync Rt.row × IsSync P.row × (1 ≤ few) × (few ≤ length low_parts.now)
                 × MayTry shot.now lookup.now first (length low_left.now) (length low.now) }
-            ensures { HasTried P.under shot.entry.now lookup.entry.now first low_left.entry.now low_left.exit.now
+            ensures { HasTriedRows P.under shot.entry.now lookup.entry.now first low_left.entry.now low_left.exit.now
                 low.entry.now low.exit.now }
         { try_beside::<Rt, P>(rt, lookup, shot, first, few, low_parts, low_left, low) },
         &mut || -> ()
             requires { IsSync Rt.row × IsSync P.row × (1 ≤ many) × (many ≤ length high_parts.now)
                 × MayTry shot.now lookup.now next (length high_left.now) (length high.now) }
-            ensures { HasTried P.under shot.entry.now lookup.entry.now next high_left.entry.now
+            ensures { HasTriedRows P.under shot.entry.now lookup.entry.now next high_left.entry.now
                 high_left.exit.now high.entry.now high.exit.now }
         { try_beside::<Rt, P>(rt, lookup, shot, next, many, high_parts, high_left, high) },
     );
@@ -276,7 +276,7 @@ fn try_in_parts<Rt: Threads + Sync, P: Filter + Sync>(
     requires rows { length left.old ≡ shot.now.path.now.height }
     requires bytes { length samples.old ≡ shot.now.path.now.height * (texel_length shot.now.depth * shot.now.path.now.width) }
     requires threads { (1 ≤ threads) × (threads ≤ length parts.old) }
-    ensures { HasTried P.under shot.now (replay_lookup_of shot.now.geometry.now shot.now.depth table.now tiles.now) 0
+    ensures { HasTriedRows P.under shot.now (replay_lookup_of shot.now.geometry.now shot.now.depth table.now tiles.now) 0
         left.old left.new samples.old samples.new }
 {
     let replay_lookup = ReplayLookup::new(shot.geometry, table, tiles, shot.depth);

@@ -7,8 +7,8 @@ ghost use Rattle.vt_pages.specs.Pages.{pages_of};
 ghost use Rattle.vt_journal.specs.Kept.{entries_of};
 ghost use Rattle.vt_pictures.specs.Scenes.{scene_of};
 ghost use Rattle.vt_replay_rows.specs.Following.{IsReadOn, IsReplayReady};
-ghost use Rattle.vt_replay_rows.specs.ReplayLookups.{IsReplayLookup, row_of, AreTiles};
-ghost use Rattle.vt_replay_rows.specs.Trying.{replay_lookup_of, HoldsTiles, ShowsRow, IsDone, AreTried};
+ghost use Rattle.vt_replay_rows.specs.ReplayLookups.{IsReplayLookup, bytes_row, AreTiles};
+ghost use Rattle.vt_replay_rows.specs.Trying.{replay_lookup_of, HoldsStoreTiles, ShowsRow, IsDone, AreTried};
 
 use crate::noted::Noted;
 use crate::replay_lookup::ReplayLookup;
@@ -43,10 +43,10 @@ pub(crate) fn try_line<P: Filter>(
     requires bytes { length out.old ≡ texel_length shot.now.depth * shot.now.path.now.width }
     requires pages { length counts.old ≡ pages_of shot.now.geometry.now }
     requires room { (p : ℕ) → p < length counts.old → slice_index counts.old p + 4 * shot.now.path.now.width < 2 ^ 32 }
-    ensures shown { result.missed ≡ false → (told : Option (List ℕ))
-        → HoldsTiles shot.now.geometry.now shot.now.depth replay_lookup.now told
+    ensures shown { result.missed ≡ false → (known : Option (List ℕ))
+        → HoldsStoreTiles shot.now.geometry.now shot.now.depth replay_lookup.now known
         → ShowsRow P.under (scene_of shot.now.geometry.now shot.now.depth shot.now.path.now)
-        (entries_of replay_lookup.now.entries) told shot.now.picture y out.new }
+        (entries_of replay_lookup.now.entries) known shot.now.picture y out.new }
     ensures counted { (p : ℕ) → p < length counts.new
         → slice_index counts.new p ≤ slice_index counts.old p + 4 * shot.now.path.now.width }
 {
@@ -76,11 +76,11 @@ fn try_once<P: Filter>(
     requires bytes { length out.old ≡ texel_length shot.now.depth * shot.now.path.now.width }
     requires pages { length counts.old ≡ pages_of shot.now.geometry.now }
     requires room { (p : ℕ) → p < length counts.old → slice_index counts.old p + 4 * shot.now.path.now.width < 2 ^ 32 }
-    ensures shown { result.missed ≡ false → (told : Option (List ℕ))
-        → HoldsTiles shot.now.geometry.now shot.now.depth
-        (replay_lookup_of shot.now.geometry.now shot.now.depth table.now tiles.now) told
+    ensures shown { result.missed ≡ false → (known : Option (List ℕ))
+        → HoldsStoreTiles shot.now.geometry.now shot.now.depth
+        (replay_lookup_of shot.now.geometry.now shot.now.depth table.now tiles.now) known
         → ShowsRow P.under (scene_of shot.now.geometry.now shot.now.depth shot.now.path.now)
-        (entries_of table.now.entries.items) told shot.now.picture y out.new }
+        (entries_of table.now.entries.items) known shot.now.picture y out.new }
     ensures counted { (p : ℕ) → p < length counts.new
         → slice_index counts.new p ≤ slice_index counts.old p + 4 * shot.now.path.now.width }
 {
@@ -196,9 +196,9 @@ fn draw_into<P: Filter, F: File>(
         tiles.new.size tiles.new.slots.items tiles.new.owners.items tiles.new.bytes.items store.new) }
     ensures shown { OnOk result (ShowsRow P.under (scene_of shot.now.geometry.now shot.now.depth shot.now.path.now)
         (entries_of table.now.entries.items) (F.bytes store.old.file) shot.now.picture y
-        (row_of (texel_length shot.now.depth * shot.now.path.now.width) samples.new y)) }
+        (bytes_row (texel_length shot.now.depth * shot.now.path.now.width) samples.new y)) }
     ensures others { (z : ℕ) → z ≢ y → let line = texel_length shot.now.depth * shot.now.path.now.width in
-        row_of line samples.new z ≡ row_of line samples.old z }
+        bytes_row line samples.new z ≡ bytes_row line samples.old z }
     ensures counted { (p : ℕ) → p < length counts.new
         → slice_index counts.new p ≤ slice_index counts.old p + 4 * shot.now.path.now.width }
     ensures failed { result ≡ Err OutsideError.Failed → Rose (F.faults store.old.file) (F.faults store.new.file) }

@@ -6,7 +6,7 @@ ghost use Rattle.vt_pages.specs.Pages.{pages_of, root_of};
 ghost use Rattle.vt_journal.specs.Changes.{IsOneToOne};
 ghost use Rattle.vt_journal.specs.Kept.{entries_of};
 ghost use Rattle.vt_tiles.specs.Format.{tile_length};
-ghost use Rattle.vt_replay_rows.specs.ReplayLookups.{ReplayLookupView, IsReplayLookup, IsTrueOf, IsIn, Serves, row_of, replay_lookup_base};
+ghost use Rattle.vt_replay_rows.specs.ReplayLookups.{ReplayLookupView, IsReplayLookup, IsTrueOfTiles, IsIn, Serves, bytes_row, replay_lookup_base};
 
 use crate::noted::Noted;
 use crate::table::PageTable;
@@ -146,7 +146,7 @@ impl ReplayLookup<'_> {
     fn word_of(&self, page: u32, place: u32) -> u64
         requires { place < self.now.shape.tile * self.now.shape.tile }
         ensures { (slot : ℕ) → IsIn self.now.slots self.now.owners page slot
-            → result ≡ word_at self.now.depth (row_of self.now.size self.now.bytes slot) place }
+            → result ≡ word_at self.now.depth (bytes_row self.now.size self.now.bytes slot) place }
     {
         match self.tile {
             Some(tile) if page == self.page => word_in(tile, self.depth, place as usize),
@@ -158,7 +158,7 @@ impl ReplayLookup<'_> {
     fn far_word(&self, page: u32, place: u32) -> u64
         requires { place < self.now.shape.tile * self.now.shape.tile }
         ensures { (slot : ℕ) → IsIn self.now.slots self.now.owners page slot
-            → result ≡ word_at self.now.depth (row_of self.now.size self.now.bytes slot) place }
+            → result ≡ word_at self.now.depth (bytes_row self.now.size self.now.bytes slot) place }
     {
         match self.tiles.tile_of(page) {
             Some(tile) => word_in(tile, self.depth, place as usize),
@@ -193,7 +193,7 @@ impl Lookup for ReplayLookup<'_> {
 
     ghost version = { λ v. v.version };
 
-    ghost says = { IsTrueOf };
+    ghost says = { IsTrueOfTiles };
 
     ghost Kept = { ReplayLookupView };
 

@@ -10,7 +10,7 @@ ghost use Rattle.vt_journal.specs.Changes.{with_entry};
 ghost use Rattle.vt_journal.specs.Kept.{entries_of};
 ghost use Rattle.vt_tiles.specs.Format.{tile_start, tile_length};
 ghost use Rattle.vt_replay_rows.specs.Following.{IsReadOn};
-ghost use Rattle.vt_replay_rows.specs.ReplayLookups.{row_of, IsIn, IsHeld, IsTileOf, AreTiles};
+ghost use Rattle.vt_replay_rows.specs.ReplayLookups.{bytes_row, IsIn, IsHeld, IsTileOf, AreTiles};
 
 use crate::noted::Noted;
 use lru::LruCache;
@@ -47,8 +47,8 @@ impl Tiles {
         requires depth { IsDepth depth }
         requires some { 1 ≤ slots }
         requires few { slots * (geometry.now.tile * geometry.now.tile) ≤ most_frame_texels }
-        ensures { IfOk result (λ t. (told : Option (List ℕ))
-            → AreTiles geometry.now depth t.size t.slots.items t.owners.items t.bytes.items told) }
+        ensures { IfOk result (λ t. (known : Option (List ℕ))
+            → AreTiles geometry.now depth t.size t.slots.items t.owners.items t.bytes.items known) }
     {
         let size = tile_length(geometry, depth);
         let bytes = Vec::from_elem(alloc, 0, slots as usize * size)?;
@@ -176,8 +176,8 @@ fn read_slot<F: File>(
     requires bytes { length bytes.old ≡ slots * size }
     requires slot { slot < slots }
     ensures tile { OnOk result (IfSome (F.bytes store.old.file)
-        (λ b. IsPiece b (tile_start store.old.shape store.old.depth page) (row_of size bytes.new slot))) }
-    ensures others { (z : ℕ) → z ≢ slot → row_of size bytes.new z ≡ row_of size bytes.old z }
+        (λ b. IsPiece b (tile_start store.old.shape store.old.depth page) (bytes_row size bytes.new slot))) }
+    ensures others { (z : ℕ) → z ≢ slot → bytes_row size bytes.new z ≡ bytes_row size bytes.old z }
     ensures failed { result ≡ Err OutsideError.Failed → Rose (F.faults store.old.file) (F.faults store.new.file) }
     ensures read { IsReadOn F.File store.old store.new }
 {

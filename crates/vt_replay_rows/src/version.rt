@@ -8,7 +8,7 @@ ghost use Rattle.vt_journal.specs.declared.changes.RowLine.{RowLine};
 ghost use Rattle.vt_journal.specs.Kept.{entries_of};
 ghost use Rattle.vt_pictures.specs.Scenes.{scene_of};
 ghost use Rattle.vt_replay_rows.specs.Following.{IsReadOn, IsReplayReady};
-ghost use Rattle.vt_replay_rows.specs.ReplayLookups.{row_of};
+ghost use Rattle.vt_replay_rows.specs.ReplayLookups.{bytes_row};
 ghost use Rattle.vt_replay_rows.specs.Trying.{ShowsRow};
 
 use crate::beside::{Part, draw_beside};
@@ -61,10 +61,10 @@ pub fn draw_version<Rt: Threads + Sync, P: Filter + Sync, F: File>(
     ensures shown { OnOk result ((y : ℕ) (row : RowLine) → slice_get rows.now y ≡ Some row → row.version ≡ version
         → ShowsRow P.under (scene_of shot.now.geometry.now shot.now.depth shot.now.path.now)
         (entries_of table.now.entries.items) (F.bytes store.old.file) shot.now.picture y
-        (row_of (texel_length shot.now.depth * shot.now.path.now.width) samples.new y)) }
+        (bytes_row (texel_length shot.now.depth * shot.now.path.now.width) samples.new y)) }
     ensures kept { OnOk result ((y : ℕ) (row : RowLine) → slice_get rows.now y ≡ Some row → row.version ≢ version
         → let line = texel_length shot.now.depth * shot.now.path.now.width in
-        row_of line samples.new y ≡ row_of line samples.old y) }
+        bytes_row line samples.new y ≡ bytes_row line samples.old y) }
     ensures failed { result ≡ Err OutsideError.Failed → Rose (F.faults store.old.file) (F.faults store.new.file) }
     ensures read { IsReadOn F.File store.old store.new }
 {

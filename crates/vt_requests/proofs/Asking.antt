@@ -19,7 +19,7 @@ use Rattle.vt_load.specs.Steps.{Puts}
 use Rattle.vt_load.specs.Queues.{capacity_of, WasFull}
 use Rattle.vt_load.proofs.OrderLemmas.{puts_last, full_of}
 use Rattle.vt_load.specs.Readings.{is_readable}
-use Rattle.vt_load.specs.Results.{wanted_by}
+use Rattle.vt_load.specs.Results.{ticket_and_page}
 use Rattle.vt_requests.specs.BatchRounds.{page_if, entry_asks, ArePut}
 
 -- So many requests were put through a whole pass, and nothing was taken.
@@ -68,12 +68,12 @@ asked_more s d batch n v w r e h p low ticket page inside size =
     let put = puts_last v w r p h.whole in
     let items : items_of w.put ≡ items_of v.put ++ r ∷ [] = ap (λ (u : PassView Request). items_of u.put) put
     ∙ map-append (λ (y : ℕ × Request). y.1) v.put ((length v.put, r) ∷ []) in
-    let asks : wanted_by r ≡ entry_asks batch n = λ i. (ticket i, (page ∙ ap page_if (sym (slice_get-get_or batch n e low))) i) in
+    let asks : ticket_and_page r ≡ entry_asks batch n = λ i. (ticket i, (page ∙ ap page_if (sym (slice_get-get_or batch n e low))) i) in
     record {
       whole = ap (λ (u : PassView Request). u.shares) put ∙ h.whole;
       no_takes = ap (λ (u : PassView Request). u.took) put ∙ h.no_takes;
       count = ap (λ (u : PassView Request). length u.put) put ∙ length-append v.put ((length v.put, r) ∷ []) ∙ ap (λ k. k + 1) h.count;
-      requests = ap (map wanted_by) items ∙ map-append wanted_by (items_of v.put) (r ∷ [])
+      requests = ap (map ticket_and_page) items ∙ map-append ticket_and_page (items_of v.put) (r ∷ [])
           ∙ (λ i. h.requests i ++ asks i ∷ []) ∙ sym (map-range_with_len_more (entry_asks batch) 0 n n (zero-add n));
       readable = subst (λ l. All (λ x. is_readable s d x ≡ true) l) (sym items)
           (All-push (λ x. is_readable s d x ≡ true) (items_of v.put) r h.readable (readable_so s d r inside size));

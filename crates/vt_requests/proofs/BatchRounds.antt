@@ -19,13 +19,13 @@ use Rattle.vt_machine.specs.Batches.{read_entries}
 use Rattle.vt_load.specs.QueueTypes.items.Loaded.{Loaded}
 use Rattle.vt_load.specs.Orders.{items_of}
 use Rattle.vt_load.specs.Readings.{is_lost}
-use Rattle.vt_load.specs.Results.{given_by, read_place, lost_among, IsReadFor}
+use Rattle.vt_load.specs.Results.{answered_by, read_place, lost_among, IsReadFor}
 use Rattle.vt_load.specs.Together.{Portion, all_put}
 use Rattle.vt_load.specs.QueuedLoaders.{QueuedView, stores_of}
 use Rattle.vt_load.specs.Rounds.{Round, AreServed}
 use Rattle.vt_load.proofs.Dealing.{all_unmap}
 use Rattle.vt_machine.specs.Outcomes.{lost_count, group_if, pass_events, IsOrder, IsOutcome}
-use Rattle.vt_machine.specs.Requests.{FileState, AllTell, times_asked_by, times_failed_by, is_tile_at, times_planned, lost_entries, counts_of, AreReadFor}
+use Rattle.vt_machine.specs.Requests.{FileState, AllKnown, times_asked_by, times_failed_by, is_tile_at, times_planned, lost_entries, counts_of, AreReadFor}
 use Rattle.vt_machine.specs.Machines.{file_state, files_of}
 use Rattle.vt_requests.specs.BatchRounds.{page_if, entry_asks, AreRequestsOf, tickets_of, result_events, AreLossesOf, IsResultOf}
 
@@ -38,7 +38,7 @@ asked_tickets : (batch : List Planned) (ts : List ℕ) → map (λ (p : ℕ × �
 asked_tickets batch [] = refl
 asked_tickets batch (t ∷ ts) = ap (λ l. t ∷ l) (asked_tickets batch ts)
 
-given_tickets : (xs : List Loaded) → map (λ (p : ℕ × ℕ). p.0) (map given_by xs) ≡ tickets_of xs
+given_tickets : (xs : List Loaded) → map (λ (p : ℕ × ℕ). p.0) (map answered_by xs) ≡ tickets_of xs
 given_tickets [] = refl
 given_tickets (x ∷ xs) = ap (λ l. x.request.ticket ∷ l) (given_tickets xs)
 
@@ -135,9 +135,9 @@ or_right : (b c : Bool) → c ≡ true → (b || c) ≡ true
 or_right true c e = refl
 or_right false c e = e
 
-tells_too : (o : Option (List Place)) (f : List Place → List Place) → is_some (option_map f o) ≡ is_some o
-tells_too None f = refl
-tells_too (Some places) f = refl
+known_stays : (o : Option (List Place)) (f : List Place → List Place) → is_some (option_map f o) ≡ is_some o
+known_stays None f = refl
+known_stays (Some places) f = refl
 
 module _ {F : Type 0} (g : FileMeanings F) (s : Shape) (d : ℕ) where
   befores : List (Portion F) → List FileState
@@ -161,36 +161,36 @@ module _ {F : Type 0} (g : FileMeanings F) (s : Shape) (d : ℕ) where
       = ap (sum_by f) (map-append (λ (e : ℕ × Loaded). e.1) p.put (all_put ps)) ∙ sum_by-append f (items_of p.put) (items_of (all_put ps)) in
       omega (arith, one, rest, a, b, c)
 
-  each_asked : (at len : ℕ) (ps : List (Portion F)) → AllTell (befores ps) → All (λ p. IsReadFor g s d (items_of p.put) p.before p.after) ps
+  each_asked : (at len : ℕ) (ps : List (Portion F)) → AllKnown (befores ps) → All (λ p. IsReadFor g s d (items_of p.put) p.before p.after) ps
       → All (λ p. times_asked at len (unwrap_or (g.asked p.after) []) ≡ times_asked at len (unwrap_or (g.asked p.before) [])
       + sum_by (λ x. cond (is_tile_at s d at len x.request.page) 1 0) (items_of p.put)) ps
   unfolding befores
-  each_asked at len [] tell all = All-nil (λ (p : Portion F). times_asked at len (unwrap_or (g.asked p.after) []) ≡ times_asked at len
+  each_asked at len [] all_known all = All-nil (λ (p : Portion F). times_asked at len (unwrap_or (g.asked p.after) []) ≡ times_asked at len
       (unwrap_or (g.asked p.before) [])
       + sum_by (λ x. cond (is_tile_at s d at len x.request.page) 1 0) (items_of p.put))
-  each_asked at len (p ∷ ps) tell all = All-cons (λ (p : Portion F). times_asked at len (unwrap_or (g.asked p.after) []) ≡ times_asked at len
+  each_asked at len (p ∷ ps) all_known all = All-cons (λ (p : Portion F). times_asked at len (unwrap_or (g.asked p.after) []) ≡ times_asked at len
       (unwrap_or (g.asked p.before) [])
       + sum_by (λ x. cond (is_tile_at s d at len x.request.page) 1 0) (items_of p.put)) p ps
       (asked_by s d at len (g.asked p.before) (g.asked p.after) (items_of p.put)
       (All-head (λ (p : Portion F). IsReadFor g s d (items_of p.put) p.before p.after) p ps all).asked
-      (All-head (λ (f : FileState). IsSome f.asked) (file_state g p.before) (befores ps) tell))
-      (each_asked at len ps (All-tail (λ (f : FileState). IsSome f.asked) (file_state g p.before) (befores ps) tell)
+      (All-head (λ (f : FileState). IsSome f.asked) (file_state g p.before) (befores ps) all_known))
+      (each_asked at len ps (All-tail (λ (f : FileState). IsSome f.asked) (file_state g p.before) (befores ps) all_known)
       (All-tail (λ (p : Portion F). IsReadFor g s d (items_of p.put) p.before p.after) p ps all))
 
-  each_failed : (at len : ℕ) (ps : List (Portion F)) → AllTell (befores ps) → All (λ p. IsReadFor g s d (items_of p.put) p.before p.after) ps
+  each_failed : (at len : ℕ) (ps : List (Portion F)) → AllKnown (befores ps) → All (λ p. IsReadFor g s d (items_of p.put) p.before p.after) ps
       → All (λ p. times_failed at len (unwrap_or (g.asked p.after) []) ≡ times_failed at len (unwrap_or (g.asked p.before) [])
       + sum_by (λ x. cond (is_tile_at s d at len x.request.page && is_lost x.outcome) 1 0) (items_of p.put)) ps
   unfolding befores
-  each_failed at len [] tell all = All-nil (λ (p : Portion F). times_failed at len (unwrap_or (g.asked p.after) []) ≡ times_failed at len
+  each_failed at len [] all_known all = All-nil (λ (p : Portion F). times_failed at len (unwrap_or (g.asked p.after) []) ≡ times_failed at len
       (unwrap_or (g.asked p.before) [])
       + sum_by (λ x. cond (is_tile_at s d at len x.request.page && is_lost x.outcome) 1 0) (items_of p.put))
-  each_failed at len (p ∷ ps) tell all = All-cons (λ (p : Portion F). times_failed at len (unwrap_or (g.asked p.after) []) ≡ times_failed at len
+  each_failed at len (p ∷ ps) all_known all = All-cons (λ (p : Portion F). times_failed at len (unwrap_or (g.asked p.after) []) ≡ times_failed at len
       (unwrap_or (g.asked p.before) [])
       + sum_by (λ x. cond (is_tile_at s d at len x.request.page && is_lost x.outcome) 1 0) (items_of p.put)) p ps
       (failed_by s d at len (g.asked p.before) (g.asked p.after) (items_of p.put)
       (All-head (λ (p : Portion F). IsReadFor g s d (items_of p.put) p.before p.after) p ps all).asked
-      (All-head (λ (f : FileState). IsSome f.asked) (file_state g p.before) (befores ps) tell))
-      (each_failed at len ps (All-tail (λ (f : FileState). IsSome f.asked) (file_state g p.before) (befores ps) tell)
+      (All-head (λ (f : FileState). IsSome f.asked) (file_state g p.before) (befores ps) all_known))
+      (each_failed at len ps (All-tail (λ (f : FileState). IsSome f.asked) (file_state g p.before) (befores ps) all_known)
       (All-tail (λ (p : Portion F). IsReadFor g s d (items_of p.put) p.before p.after) p ps all))
 
   same_names : (ps : List (Portion F)) → All (λ p. IsReadFor g s d (items_of p.put) p.before p.after) ps
@@ -200,14 +200,14 @@ module _ {F : Type 0} (g : FileMeanings F) (s : Shape) (d : ℕ) where
   same_names (p ∷ ps) all = λ i. (All-head (λ (q : Portion F). IsReadFor g s d (items_of q.put) q.before q.after) p ps all).name i
       ∷ same_names ps (All-tail (λ (q : Portion F). IsReadFor g s d (items_of q.put) q.before q.after) p ps all) i
 
-  same_tells : (ps : List (Portion F)) → All (λ p. IsReadFor g s d (items_of p.put) p.before p.after) ps
+  same_known_too : (ps : List (Portion F)) → All (λ p. IsReadFor g s d (items_of p.put) p.before p.after) ps
       → map (λ (f : FileState). is_some f.asked) (afters ps) ≡ map (λ (f : FileState). is_some f.asked) (befores ps)
   unfolding befores afters
-  same_tells [] all = refl
-  same_tells (p ∷ ps) all =
+  same_known_too [] all = refl
+  same_known_too (p ∷ ps) all =
       let one = All-head (λ (q : Portion F). IsReadFor g s d (items_of q.put) q.before q.after) p ps all in
-      λ i. (ap is_some one.asked ∙ tells_too (g.asked p.before) (λ places. places ++ map (read_place s d) (items_of p.put))) i
-      ∷ same_tells ps (All-tail (λ (q : Portion F). IsReadFor g s d (items_of q.put) q.before q.after) p ps all) i
+      λ i. (ap is_some one.asked ∙ known_stays (g.asked p.before) (λ places. places ++ map (read_place s d) (items_of p.put))) i
+      ∷ same_known_too ps (All-tail (λ (q : Portion F). IsReadFor g s d (items_of q.put) q.before q.after) p ps all) i
 
   -- The counts rose together by the lost results.
   rose_all : (ps : List (Portion F)) → All (λ p. IsReadFor g s d (items_of p.put) p.before p.after) ps
@@ -248,10 +248,10 @@ module _ {F : Type 0} (g : FileMeanings F) (s : Shape) (d : ℕ) where
   after_files [] = refl
   after_files (p ∷ ps) = ap (λ k. file_state g p.after ∷ k) (after_files ps)
 
-  module _ (told : Option (List ℕ)) (r : Round F) (served : AreServed g s d told r) (batch : List Planned)
+  module _ (known : Option (List ℕ)) (r : Round F) (served : AreServed g s d known r) (batch : List Planned)
       (requests : AreRequestsOf batch (items_of r.asks.put)) where
-    all_given : IsPermutation (map (entry_asks batch) (range_with_len 0 (length batch))) (map given_by r.results)
-    all_given = subst (λ l. IsPermutation l (map given_by r.results)) requests served.each
+    all_given : IsPermutation (map (entry_asks batch) (range_with_len 0 (length batch))) (map answered_by r.results)
+    all_given = subst (λ l. IsPermutation l (map answered_by r.results)) requests served.each
 
     pub tickets_once : IsOrder (length batch) (tickets_of r.results)
     tickets_once = subst (λ l. IsPermutation l (tickets_of r.results)) (asked_tickets batch (range_with_len 0 (length batch)))
@@ -259,7 +259,7 @@ module _ {F : Type 0} (g : FileMeanings F) (s : Shape) (d : ℕ) where
         (IsPermutation-map (λ (p : ℕ × ℕ). p.0) _ _ all_given))
 
     so : All (λ (x : Loaded). (x.request.ticket < length batch) × (x.request.page ≡ page_if (slice_get batch x.request.ticket))) r.results
-    so = all_unmap (λ (p : ℕ × ℕ). (p.0 < length batch) × (p.1 ≡ page_if (slice_get batch p.0))) given_by r.results
+    so = all_unmap (λ (p : ℕ × ℕ). (p.0 < length batch) × (p.1 ≡ page_if (slice_get batch p.0))) answered_by r.results
         (All-permutation (λ (p : ℕ × ℕ). (p.0 < length batch) × (p.1 ≡ page_if (slice_get batch p.0))) _ _ all_given
         (asked_so batch (length batch) (range_with_len 0 (length batch)) (below 0 (length batch) (length batch) (omega arith))))
 
@@ -277,38 +277,38 @@ module _ {F : Type 0} (g : FileMeanings F) (s : Shape) (d : ℕ) where
         ∙ sum_by-IsPermutation h _ _ tickets_once
         ∙ sum_range k batch losses same
 
-    module _ (losses : List Bool) (told_of : AreLossesOf batch r.results losses) where
+    module _ (losses : List Bool) (losses_are : AreLossesOf batch r.results losses) where
       planned : (at len : ℕ) → sum_by (λ x. cond (is_tile_at s d at len x.request.page) 1 0) (items_of (all_put served.portions)) ≡ times_planned s d
           batch at len
       planned at len = sum_batch (λ x. cond (is_tile_at s d at len x.request.page) 1 0) (λ o l. cond (is_tile_at s d at len (page_if o)) 1 0) losses
-          told_of.told
+          losses_are.reported
           (λ k e inside. ap (λ (p : ℕ). cond (is_tile_at s d at len p) 1 0) (so k e inside).1)
-          ∙ sum_planned s d at len batch losses told_of.told
+          ∙ sum_planned s d at len batch losses losses_are.reported
 
       lost_planned : (at len : ℕ) → sum_by (λ x. cond (is_tile_at s d at len x.request.page && is_lost x.outcome) 1 0) (items_of (all_put served.portions))
           ≡ times_planned s d (lost_entries batch losses) at len
       lost_planned at len = sum_batch (λ x. cond (is_tile_at s d at len x.request.page && is_lost x.outcome) 1 0)
           (λ o l. cond (is_tile_at s d at len (page_if o) && l) 1 0)
-          losses told_of.told
-          (λ k e inside i. cond (is_tile_at s d at len ((so k e inside).1 i) && sym (told_of.each k e inside) i) 1 0)
+          losses losses_are.reported
+          (λ k e inside i. cond (is_tile_at s d at len ((so k e inside).1 i) && sym (losses_are.each k e inside) i) 1 0)
           ∙ sum_lost_planned s d at len batch losses
 
       lost_together : lost_among (items_of (all_put served.portions)) ≡ lost_count losses
-      lost_together = sum_batch (λ x. cond (is_lost x.outcome) 1 0) (λ o l. cond l 1 0) losses told_of.told
-          (λ k e inside i. cond (sym (told_of.each k e inside) i) 1 0)
-          ∙ sum_lost batch losses told_of.told
+      lost_together = sum_batch (λ x. cond (is_lost x.outcome) 1 0) (λ o l. cond l 1 0) losses losses_are.reported
+          (λ k e inside i. cond (sym (losses_are.each k e inside) i) 1 0)
+          ∙ sum_lost batch losses losses_are.reported
 
       portions_read : AreReadFor s d batch losses (befores served.portions) (afters served.portions)
       portions_read = record {
-        same = record { names = same_names served.portions served.files; tell = same_tells served.portions served.files };
-        once = λ tell. record {
+        same = record { names = same_names served.portions served.files; all_known = same_known_too served.portions served.files };
+        once = λ all_known. record {
           asked = λ at len. sum_files (λ (f : FileState). times_asked at len (unwrap_or f.asked []))
               (λ x. cond (is_tile_at s d at len x.request.page) 1 0) served.portions
-              (each_asked at len served.portions tell served.files)
+              (each_asked at len served.portions all_known served.files)
               ∙ ap (λ n. times_asked_by (befores served.portions) at len + n) (planned at len);
           failed = λ at len. sum_files (λ (f : FileState). times_failed at len (unwrap_or f.asked []))
               (λ x. cond (is_tile_at s d at len x.request.page && is_lost x.outcome) 1 0) served.portions
-              (each_failed at len served.portions tell served.files)
+              (each_failed at len served.portions all_known served.files)
               ∙ ap (λ n. times_failed_by (befores served.portions) at len + n) (lost_planned at len);
         };
         faults = subst (λ n. RoseTogetherBy n (counts_of (befores served.portions)) (counts_of (afters served.portions))) lost_together
@@ -331,8 +331,8 @@ module _ {F : Type 0} (g : FileMeanings F) (s : Shape) (d : ℕ) where
 
       pub round_outcome : (events : List Event) → events ≡ result_events batch r.results → IsOutcome batch losses events
       round_outcome events e = record {
-        told = told_of.told;
+        reported = losses_are.reported;
         order = tickets_of r.results;
         each_once = tickets_once;
-        groups = e ∙ groups_same r.results told_of.each;
+        groups = e ∙ groups_same r.results losses_are.each;
       }

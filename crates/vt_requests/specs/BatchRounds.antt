@@ -13,7 +13,7 @@ use Rattle.vt_load.specs.PassViews.{all_shares}
 use Rattle.vt_load.specs.Orders.{items_of}
 use Rattle.vt_load.specs.declared.queued.Queues.{Queues}
 use Rattle.vt_load.specs.Readings.{is_lost, is_readable}
-use Rattle.vt_load.specs.Results.{wanted_by}
+use Rattle.vt_load.specs.Results.{ticket_and_page}
 use Rattle.vt_load.specs.QueuedLoaders.{QueuedView, HasLoaded, IsLoaderOf, AreSplitOff}
 use Rattle.vt_machine.specs.Outcomes.{group_if}
 
@@ -28,7 +28,7 @@ entry_asks batch ticket = (ticket, page_if (slice_get batch ticket))
 
 -- the requests of a batch: one for each entry, in their order
 abbrev pub AreRequestsOf : List Planned → List Request → Type 0
-AreRequestsOf batch requests = map wanted_by requests ≡ map (entry_asks batch) (range_with_len 0 (length batch))
+AreRequestsOf batch requests = map ticket_and_page requests ≡ map (entry_asks batch) (range_with_len 0 (length batch))
 
 -- the tickets of results, in the order in which they came
 abbrev pub tickets_of : List Loaded → List ℕ
@@ -44,7 +44,7 @@ result_events batch results = flat_map (result_group batch) results
 
 -- it is told of each entry whether its result is lost
 pub record AreLossesOf (batch : List Planned) (results : List Loaded) (losses : List Bool) : Type 0 where
-  pub told : length losses ≡ length batch
+  pub reported : length losses ≡ length batch
   pub each : All (λ result. slice_index_or losses result.request.ticket true ≡ is_lost result.outcome) results
 
 -- a result is that of an entry
@@ -57,27 +57,27 @@ pub record ArePut (s : Shape) (d : ℕ) (batch : List Planned) (n : ℕ) (v : Pa
   pub whole : v.shares ≡ all_shares
   pub no_takes : v.took ≡ []
   pub count : length v.put ≡ n
-  pub requests : map wanted_by (items_of v.put) ≡ map (entry_asks batch) (range_with_len 0 n)
+  pub requests : map ticket_and_page (items_of v.put) ≡ map (entry_asks batch) (range_with_len 0 n)
   pub readable : All (λ request. is_readable s d request ≡ true) (items_of v.put)
 
 -- how a round of requests for a batch began: what the pass of each queue knew before passes for the loaders were split off, and the loaders;
--- how many bytes a sample has, and the bytes of the store, where they are told
-pub record Begun (F : Type 0) : Type 0 where
+-- how many bytes a sample has, and the bytes of the store, where they are known
+pub record BegunRound (F : Type 0) : Type 0 where
   pub asks : PassView Request
   pub answers : PassView Loaded
   pub first : List (QueuedView F)
   pub depth : ℕ
-  pub told : Option (List ℕ)
+  pub known : Option (List ℕ)
 
 -- The loaders of a round for a batch have ended: passes of the two queues were split off for them, and these have what was left.
 pub record IsEndedRound {F : Type 0} (g : FileMeanings F) (q : Queues) (s : Shape) (batch : List Planned) (asks : PassView Request)
-    (answers : PassView Loaded) (last : List (QueuedView F)) (b : Begun F) : Type 0 where
+    (answers : PassView Loaded) (last : List (QueuedView F)) (b : BegunRound F) : Type 0 where
   pub asked : ArePut s b.depth batch (length batch) b.asks
   pub answers_all : b.answers.shares ≡ all_shares
   pub no_results : b.answers.put ≡ []
   pub no_answers : b.answers.took ≡ []
   pub split : AreSplitOff b.asks asks b.answers answers b.first
   pub depth_is : IsDepth b.depth
-  pub loaders : All (IsLoaderOf g s b.depth b.told) b.first
+  pub loaders : All (IsLoaderOf g s b.depth b.known) b.first
   pub number : length last ≡ length b.first
   pub loaded : (k : ℕ) (e : QueuedView F) → k < length b.first → HasLoaded g q (slice_index_or b.first k e) (slice_index_or last k e)

@@ -6,7 +6,7 @@ ghost use Rattle.vt_table.specs.Pages.{pages_of};
 ghost use Rattle.vt_load.specs.Format.{tile_length};
 ghost use Rattle.vt_load.specs.PassViews.{first_view};
 ghost use Rattle.vt_load.specs.Steps.{Puts};
-ghost use Rattle.vt_load.specs.Queues.{view_of, splits_of, IsOf, capacity_of, WasFull};
+ghost use Rattle.vt_load.specs.Queues.{queue_view_of, queue_splits_of, IsPassOfQueue, capacity_of, WasFull};
 ghost use Rattle.vt_requests.specs.BatchRounds.{ArePut, page_if};
 ghost use Rattle.vt_requests.specs.Sizes.{AreSized};
 
@@ -43,10 +43,10 @@ fn put_next<Rt: Threads + Wait>(
     asks: &mut QueuePass<Request>,
     request: Request,
 )
-    requires of { IsOf requests.now asks.old }
-    requires room { WasFull requests.now (view_of asks.old) → ⊥ }
-    ensures of { IsOf requests.now asks.new × (splits_of asks.new ≡ splits_of asks.old) }
-    ensures puts { Puts (view_of asks.old) request (view_of asks.new) }
+    requires of { IsPassOfQueue requests.now asks.old }
+    requires room { WasFull requests.now (queue_view_of asks.old) → ⊥ }
+    ensures of { IsPassOfQueue requests.now asks.new × (queue_splits_of asks.new ≡ queue_splits_of asks.old) }
+    ensures puts { Puts (queue_view_of asks.old) request (queue_view_of asks.new) }
 {
     match requests.put(rt, asks, request) {
         Ok(()) => {}
@@ -62,15 +62,15 @@ pub fn ask_batch<Rt: Threads + Wait>(
     batch: &[Planned],
     buffers: &mut Items<Bytes>,
 )
-    requires of { IsOf requests.now asks.old }
-    requires new { view_of asks.old ≡ first_view }
+    requires of { IsPassOfQueue requests.now asks.old }
+    requires new { queue_view_of asks.old ≡ first_view }
     requires room { length batch.now ≤ capacity_of requests.now }
     requires few { length batch.now < 2 ^ 32 }
     requires buffers { length batch.now ≤ length buffers.old.elements }
-    ensures of { IsOf requests.now asks.new × (splits_of asks.new ≡ splits_of asks.old) }
+    ensures of { IsPassOfQueue requests.now asks.new × (queue_splits_of asks.new ≡ queue_splits_of asks.old) }
     ensures asked { (s : Shape) (d : ℕ) → All (λ e. e.page < pages_of s) batch.now
         → AreSized (tile_length s d) buffers.old.elements
-        → ArePut s d batch.now (length batch.now) (view_of asks.new) }
+        → ArePut s d batch.now (length batch.now) (queue_view_of asks.new) }
     ensures left { (n : ℕ) → AreSized n buffers.old.elements → AreSized n buffers.new.elements }
     ensures count { length buffers.new.elements + length batch.now ≡ length buffers.old.elements }
     ensures room { buffers.new.spare ≡ buffers.old.spare + length batch.now }

@@ -18,17 +18,17 @@ use vt_outside::File;
 /// for its entry; with what they leave the events are an outcome of the batch, and the loaders' files were read for it,
 /// however many there are.
 pub fn rounds_are_passes<F: File>()
-    ensures tickets { (s : Shape) (d : ℕ) (told : Option (List ℕ)) (r : Round F) (batch : List Entry)
-        → AreServed F.File s d told r
+    ensures tickets { (s : Shape) (d : ℕ) (known : Option (List ℕ)) (r : Round F) (batch : List Entry)
+        → AreServed F.File s d known r
         → AreRequestsOf batch (items_of r.asks.put) → IsOrder (length batch) (tickets_of r.results) }
-    ensures entries { (s : Shape) (d : ℕ) (told : Option (List ℕ)) (r : Round F) (batch : List Entry)
-        → AreServed F.File s d told r
+    ensures entries { (s : Shape) (d : ℕ) (known : Option (List ℕ)) (r : Round F) (batch : List Entry)
+        → AreServed F.File s d known r
         → AreRequestsOf batch (items_of r.asks.put) → All (IsResultOf batch) r.results }
-    ensures outcome { (s : Shape) (d : ℕ) (told : Option (List ℕ)) (r : Round F) (batch : List Entry)
+    ensures outcome { (s : Shape) (d : ℕ) (known : Option (List ℕ)) (r : Round F) (batch : List Entry)
         (losses : List Bool) (events : List Event)
-        → AreServed F.File s d told r → AreRequestsOf batch (items_of r.asks.put) → AreLossesOf batch r.results losses
+        → AreServed F.File s d known r → AreRequestsOf batch (items_of r.asks.put) → AreLossesOf batch r.results losses
         → events ≡ result_events batch r.results → IsOutcome batch losses events }
-    ensures read { (s : Shape) (d : ℕ) (told : Option (List ℕ)) (r : Round F) (batch : List Entry) (losses : List Bool)
-        → AreServed F.File s d told r → AreRequestsOf batch (items_of r.asks.put) → AreLossesOf batch r.results losses
+    ensures read { (s : Shape) (d : ℕ) (known : Option (List ℕ)) (r : Round F) (batch : List Entry) (losses : List Bool)
+        → AreServed F.File s d known r → AreRequestsOf batch (items_of r.asks.put) → AreLossesOf batch r.results losses
         → AreReadFor s d batch losses (files_of F.File (stores_of r.first)) (files_of F.File (stores_of r.last)) }
 {}

@@ -2,7 +2,7 @@
 use Rattle.std.proofs.Common.{◌≡◌, ℕ, suc, ◌+◌, ◌<◌, Bool, true, false, Option, None, Some, List, [], ◌∷◌, slice_get, refl, ap, ◌∙◌, arith, nat_lt, slice_index}
 use Rattle.std.specs.Prelude.{MatchOption}
 use Rattle.std.proofs.lemmas.Bool.Decides.{nat_tests}
-use Rattle.vt_evict.specs.Missing.{is_mapped}
+use Rattle.vt_evict.specs.Missing.{has_frame}
 use Rattle.vt_residency.specs.declared.places.Place.{Place}
 use Rattle.vt_residency.specs.Places.{IsPlaceOf}
 use Rattle.std.specs.List.{position_or_len}
@@ -11,7 +11,7 @@ use Rattle.vt_pages.specs.Pages.{IsWithinLimits, level_of, levels_of, pages_of, 
 use Rattle.vt_pages.specs.Lookups.{lookup}
 use Rattle.vt_pages.proofs.Parents.{IsParent, parent_facts, root_facts, line_begins}
 use Rattle.vt_pages.proofs.Lines.{parent_is, reaches_root}
-use Rattle.vt_plan.specs.Views.{RecencyView, IsTable, is_pinned}
+use Rattle.vt_plan.specs.Views.{RecencyView, IsRecencyTable, is_pinned}
 use Rattle.std.proofs.lemmas.Bool.{false≢true}
 use Rattle.std.proofs.Common.{zero, ◌-◌, ◌≤◌, nat_le, sym}
 
@@ -49,24 +49,24 @@ pub found_here : (s : Shape) (es : List ℕ) (p f k : ℕ) → IsWithinLimits s 
     → IsPlaceOf s es p (record { page = p; frame = f; level = k })
 found_here s es p f k limits inside e level =
     let high : nat_lt 0 (slice_index es p) ≡ true = grind (arith, nat_tests) in
-    record { looked_up = lookup_here s (is_mapped es) p limits inside high; held = e; level = level }
+    record { looked_up = lookup_here s (has_frame es) p limits inside high; held = e; level = level }
 
-low_of : (es : List ℕ) (p : ℕ) → slice_index es p ≡ 0 → is_mapped es p ≡ false
+low_of : (es : List ℕ) (p : ℕ) → slice_index es p ≡ 0 → has_frame es p ≡ false
 low_of es p e = rw e refl
 
 -- a page without one has the look-up of its parent
 pub found_up : (s : Shape) (es : List ℕ) (p q : ℕ) (r : Option Place) → IsWithinLimits s → p < pages_of s → parent_of s p ≡ Some q
-    → slice_index es p ≡ 0 → MatchOption r (lookup s (is_mapped es) q ≡ None) (IsPlaceOf s es q)
-    → MatchOption r (lookup s (is_mapped es) p ≡ None) (IsPlaceOf s es p)
-found_up s es p q r limits inside e low = by (lookup_up s (is_mapped es) p q limits inside e (low_of es p low)) r where
-  by : lookup s (is_mapped es) p ≡ lookup s (is_mapped es) q → (r : Option Place)
-      → MatchOption r (lookup s (is_mapped es) q ≡ None) (IsPlaceOf s es q) → MatchOption r (lookup s (is_mapped es) p ≡ None) (IsPlaceOf s es p)
+    → slice_index es p ≡ 0 → MatchOption r (lookup s (has_frame es) q ≡ None) (IsPlaceOf s es q)
+    → MatchOption r (lookup s (has_frame es) p ≡ None) (IsPlaceOf s es p)
+found_up s es p q r limits inside e low = by (lookup_up s (has_frame es) p q limits inside e (low_of es p low)) r where
+  by : lookup s (has_frame es) p ≡ lookup s (has_frame es) q → (r : Option Place)
+      → MatchOption r (lookup s (has_frame es) q ≡ None) (IsPlaceOf s es q) → MatchOption r (lookup s (has_frame es) p ≡ None) (IsPlaceOf s es p)
   by same None h = same ∙ h
   by same (Some x) h = record { looked_up = same ∙ h.looked_up; held = h.held; level = h.level }
 
 pub found_none : (s : Shape) (es : List ℕ) (p : ℕ) → IsWithinLimits s → p < pages_of s → parent_of s p ≡ None → slice_index es p ≡ 0
-    → lookup s (is_mapped es) p ≡ None
-found_none s es p limits inside e low = lookup_none s (is_mapped es) p limits inside e (low_of es p low)
+    → lookup s (has_frame es) p ≡ None
+found_none s es p limits inside e low = lookup_none s (has_frame es) p limits inside e (low_of es p low)
 
 some_not_none : (x : ℕ) → (let o : Option ℕ = Some x in o) ≡ None → ⊥
 some_not_none x e = false≢true (sym (ap is_some e)) where
@@ -78,14 +78,14 @@ le_true : (a b : ℕ) → a ≤ b → nat_le a b ≡ true
 le_true a b h = grind (arith, nat_tests)
 
 -- each page has a look-up, since the root is mapped
-pub found_some : (v : RecencyView) → IsTable v → (up p : ℕ) → level_of v.shape p + up + 1 ≡ levels_of v.shape → p < pages_of v.shape
-    → lookup v.shape (is_mapped v.entries) p ≡ None → ⊥
+pub found_some : (v : RecencyView) → IsRecencyTable v → (up p : ℕ) → level_of v.shape p + up + 1 ≡ levels_of v.shape → p < pages_of v.shape
+    → lookup v.shape (has_frame v.entries) p ≡ None → ⊥
 found_some v h zero p level inside none =
     let r = reaches_root v.shape p (omega (arith, h.limits.least_tile)) h.limits.least_width h.limits.least_height inside in
     let is : p ≡ root_of v.shape = sym r.begins ∙ ap (slice_index (ancestors_of v.shape p)) (let e : 0 ≡ levels_of v.shape - 1 - level_of v.shape p = omega (arith, level) in e) ∙ r.ends in
     let pinned : is_pinned v p ≡ true = le_true (pages_of v.shape) (p + v.pinned) (omega (arith, is, r.root_is_last, h.some_pinned)) in
-    some_not_none p (sym (lookup_here v.shape (is_mapped v.entries) p h.limits inside (h.pinned_mapped p inside pinned)) ∙ none)
-found_some v h (suc up) p level inside none = step (is_mapped v.entries p) refl (found_some v h up q (omega (arith, facts.level, level)) facts.inside) where
+    some_not_none p (sym (lookup_here v.shape (has_frame v.entries) p h.limits inside (h.pinned_mapped p inside pinned)) ∙ none)
+found_some v h (suc up) p level inside none = step (has_frame v.entries p) refl (found_some v h up q (omega (arith, facts.level, level)) facts.inside) where
   q : ℕ
   q = index_of v.shape (parent_name (name_at v.shape p))
 
@@ -95,6 +95,6 @@ found_some v h (suc up) p level inside none = step (is_mapped v.entries p) refl 
   facts : IsParent v.shape p q
   facts = parent_facts v.shape p q h.limits inside parent
 
-  step : (b : Bool) → is_mapped v.entries p ≡ b → (lookup v.shape (is_mapped v.entries) q ≡ None → ⊥) → ⊥
-  step true high rest = some_not_none p (sym (lookup_here v.shape (is_mapped v.entries) p h.limits inside high) ∙ none)
-  step false low rest = rest (sym (lookup_up v.shape (is_mapped v.entries) p q h.limits inside parent low) ∙ none)
+  step : (b : Bool) → has_frame v.entries p ≡ b → (lookup v.shape (has_frame v.entries) q ≡ None → ⊥) → ⊥
+  step true high rest = some_not_none p (sym (lookup_here v.shape (has_frame v.entries) p h.limits inside high) ∙ none)
+  step false low rest = rest (sym (lookup_up v.shape (has_frame v.entries) p q h.limits inside parent low) ∙ none)

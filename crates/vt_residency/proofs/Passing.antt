@@ -11,8 +11,8 @@ use Rattle.vt_pages.specs.Pages.{pages_of}
 use Rattle.vt_feedback.specs.declared.Wanted.{Wanted}
 use Rattle.vt_feedback.specs.Wants.{IsWants}
 use Rattle.vt_evict.specs.PlanTypes.batches.Planned.{Planned}
-use Rattle.vt_plan.specs.Views.{RecencyView, IsTable, is_held, free_frames}
-use Rattle.vt_evict.specs.Batches.{IsLawful}
+use Rattle.vt_plan.specs.Views.{RecencyView, IsRecencyTable, is_held, free_frames}
+use Rattle.vt_evict.specs.Batches.{IsLawfulBatch}
 use Rattle.vt_residency.specs.Residencies.{ResidencyView, IsPlanned, IsPassed, pinned_at}
 use Rattle.vt_residency.proofs.Ranking.{wants_same}
 
@@ -39,14 +39,14 @@ passed old s v loads came f g q w more is shape same h =
       came = refl;
     })
 
-pub no_loads : (v : RecencyView) (b : List Planned) → b ≡ [] → IsLawful v b
+pub no_loads : (v : RecencyView) (b : List Planned) → b ≡ [] → IsLawfulBatch v b
 no_loads v b none = rw none (record {
   each = λ k d inside. absurd (omega (arith, inside));
   apart = λ i j d below inside. absurd (omega (arith, inside));
 })
 
 -- no more frames are free than there are
-pub few_free : (v : RecencyView) → IsTable v → length (free_frames v) ≤ most_frames
+pub few_free : (v : RecencyView) → IsRecencyTable v → length (free_frames v) ≤ most_frames
 unfolding free_frames
 few_free v h =
     let test : ℕ → Bool = λ f. not (is_held v.entries f) in

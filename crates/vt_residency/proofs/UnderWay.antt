@@ -16,8 +16,8 @@ use Rattle.vt_pages.specs.Limits.{most_frames}
 use Rattle.vt_feedback.specs.declared.Wanted.{Wanted}
 use Rattle.vt_evict.specs.PlanTypes.batches.Planned.{Planned}
 use Rattle.vt_evict.proofs.PlanListLemmas.{nat_eq_true}
-use Rattle.vt_plan.specs.Views.{RecencyView, IsTable, touched}
-use Rattle.vt_evict.specs.Batches.{IsFree, IsVictim, IsLawful, IsLawfulEntry, IsSettled, is_page, is_read, is_victim, read_entries}
+use Rattle.vt_plan.specs.Views.{RecencyView, IsRecencyTable, touched}
+use Rattle.vt_evict.specs.Batches.{IsFreePage, IsVictim, IsLawfulBatch, IsLawfulEntry, IsSettledByReads, is_page, is_read, is_victim, read_entries}
 use Rattle.vt_evict.proofs.ListLemmas.{below_in}
 use Rattle.vt_evict.proofs.SettleLemmas.{contains_head, read_among, eq_false}
 use Rattle.vt_residency.specs.Loads.{is_same, is_apart}
@@ -31,7 +31,7 @@ swapped : (a b : Planned) → AreApart a b → AreApart b a
 swapped a b h = (λ e. h.0 (sym e), λ e. h.1 (sym e))
 
 -- no more loads are lawful than there are frames
-pub few_lawful : (v : RecencyView) (b : List Planned) → IsTable v → IsLawful v b → length b ≤ most_frames
+pub few_lawful : (v : RecencyView) (b : List Planned) → IsRecencyTable v → IsLawfulBatch v b → length b ≤ most_frames
 few_lawful v b table h =
     let z : Planned = record { page = 0; frame = 0; victim = None } in
     let frame : Planned → ℕ = λ e. e.frame in
@@ -47,7 +47,7 @@ few_lawful v b table h =
     omega (arith, n, length-map b (λ (e : Planned). e.frame), length-range_with_len 0 v.frames, table.most_frames)
 
 -- a wanted list that is touched leaves loads lawful
-pub lawful_touched : (v : RecencyView) (wants : List Wanted) (b : List Planned) → IsLawful v b → IsLawful (touched v wants) b
+pub lawful_touched : (v : RecencyView) (wants : List Wanted) (b : List Planned) → IsLawfulBatch v b → IsLawfulBatch (touched v wants) b
 lawful_touched v wants b h = record {
   each = λ k d inside. let l = h.each k d inside in record {
     unpinned = l.unpinned;
@@ -57,7 +57,7 @@ lawful_touched v wants b h = record {
   };
   apart = h.apart;
 } where
-  place : (o : Option ℕ) (f : ℕ) → MatchOption o (IsFree v.entries f) (IsVictim v f) → MatchOption o (IsFree v.entries f) (IsVictim (touched v wants) f)
+  place : (o : Option ℕ) (f : ℕ) → MatchOption o (IsFreePage v.entries f) (IsVictim v f) → MatchOption o (IsFreePage v.entries f) (IsVictim (touched v wants) f)
   place None f free = free
   place (Some q) f held = record { unpinned = held.unpinned; held = held.held }
 
@@ -106,7 +106,7 @@ apart_at loads e i d inside apart = step (is_same e (get_or loads i d)) refl whe
       two c d false h e = grind (arith, nat_tests)
 
 -- the entries of a plan that are apart from the loads make lawful ones with them
-pub lawful_more : (v : RecencyView) (loads plan : List Planned) → IsLawful v loads → IsLawful v plan → IsLawful v (loads ++ filter (is_apart loads) plan)
+pub lawful_more : (v : RecencyView) (loads plan : List Planned) → IsLawfulBatch v loads → IsLawfulBatch v plan → IsLawfulBatch v (loads ++ filter (is_apart loads) plan)
 lawful_more v loads plan h k = record {
   each = All-append (IsLawfulEntry v) loads (filter (is_apart loads) plan) h.each (All-filter (is_apart loads) (IsLawfulEntry v) plan k.each);
   apart = pairs_append AreApart loads (filter (is_apart loads) plan) h.apart (AllPairs-filter AreApart (is_apart loads) plan k.apart)
@@ -192,7 +192,7 @@ left_apart (d ∷ batch) (s ∷ states) h e r here there =
       step false false o c here there rest = absurd (false≢true (sym c ∙ never_both s o))
 
 -- an entry that was not read stays lawful
-module _ (v w : RecencyView) (reads : List Planned) (e : Planned) (settled : IsSettled v reads w) (l : IsLawfulEntry v e)
+module _ (v w : RecencyView) (reads : List Planned) (e : Planned) (settled : IsSettledByReads v reads w) (l : IsLawfulEntry v e)
     (laws : (r : Planned) → Contains reads r → IsLawfulEntry v r) (apart : (r : Planned) → Contains reads r → AreApart e r) where
   not_read : (p : ℕ) → ((r : Planned) → Contains reads r → r.page ≢ p) → is_read reads p ≡ false
   not_read p h = step (is_read reads p) refl where
@@ -209,7 +209,7 @@ module _ (v w : RecencyView) (reads : List Planned) (e : Planned) (settled : IsS
   -- a victim has its entry's frame
   victim_holds : (r : Planned) (p : ℕ) → IsLawfulEntry v r → is_page p r.victim ≡ true → slice_index v.entries p ≡ r.frame + 1
   victim_holds r p k is = by r.victim k.place is where
-    by : (o : Option ℕ) → MatchOption o (IsFree v.entries r.frame) (IsVictim v r.frame) → is_page p o ≡ true → slice_index v.entries p ≡ r.frame + 1
+    by : (o : Option ℕ) → MatchOption o (IsFreePage v.entries r.frame) (IsVictim v r.frame) → is_page p o ≡ true → slice_index v.entries p ≡ r.frame + 1
     by None free is = absurd (false≢true is)
     by (Some q) held is = ap (slice_index v.entries) (sym (nat_eq_true q p is)) ∙ held.held
 
@@ -217,7 +217,7 @@ module _ (v w : RecencyView) (reads : List Planned) (e : Planned) (settled : IsS
   page_kept = settled.table.kept e.page (not_read e.page (λ r there same. (apart r there).0 (sym same)))
       (not_victim e.page (λ r there is. let held = victim_holds r e.page (laws r there) is in absurd (omega (arith, held, l.unmapped))))
 
-  still_free : IsFree v.entries e.frame → IsFree w.entries e.frame
+  still_free : IsFreePage v.entries e.frame → IsFreePage w.entries e.frame
   still_free free p at = step (is_read reads p) refl where
     step : (b : Bool) → is_read reads p ≡ b → ⊥
     step true there =
@@ -247,19 +247,19 @@ module _ (v w : RecencyView) (reads : List Planned) (e : Planned) (settled : IsS
     frame_inside = rw settled.frames l.frame_inside;
     place = by e.victim l.place;
   } where
-    by : (o : Option ℕ) → MatchOption o (IsFree v.entries e.frame) (IsVictim v e.frame) → MatchOption o (IsFree w.entries e.frame) (IsVictim w e.frame)
+    by : (o : Option ℕ) → MatchOption o (IsFreePage v.entries e.frame) (IsVictim v e.frame) → MatchOption o (IsFreePage w.entries e.frame) (IsVictim w e.frame)
     by None free = still_free free
     by (Some q) held = still_victim q held
 
 contained : (b : List Planned) (k : ℕ) (d : Planned) → k < length b → Contains b (get_or b k d)
 contained b k d inside = (k, inside, get_or_default b k (get_or b k d) d inside)
 
-law_at : (v : RecencyView) (b : List Planned) (r : Planned) → IsLawful v b → Contains b r → IsLawfulEntry v r
+law_at : (v : RecencyView) (b : List Planned) (r : Planned) → IsLawfulBatch v b → Contains b r → IsLawfulEntry v r
 law_at v b r h there = subst (IsLawfulEntry v) there.2 (h.each there.0 r there.1)
 
 -- what is under way stays lawful when what came is settled
-pub lawful_left : (v w : RecencyView) (batch : List Planned) (states : List ℕ) → IsLawful v batch → IsSettled v (read_entries batch (map has_not_come states)) w
-    → IsLawful w (read_entries batch (map is_over states))
+pub lawful_left : (v w : RecencyView) (batch : List Planned) (states : List ℕ) → IsLawfulBatch v batch → IsSettledByReads v (read_entries batch (map has_not_come states)) w
+    → IsLawfulBatch w (read_entries batch (map is_over states))
 lawful_left v w batch states h settled = record {
   each = λ k d inside.
       let here = contained (left_of batch states) k d inside in

@@ -23,8 +23,8 @@ abbrev pub is_counted : List ℕ → ℕ → Bool
 is_counted counts p = nat_lt 0 (slice_index counts p)
 
 -- the same by counts
-abbrev pub state_by : List ℕ → Planned → ℕ
-state_by counts load = if is_counted counts load.page then 2 else 1
+abbrev pub load_state_by : List ℕ → Planned → ℕ
+load_state_by counts load = if is_counted counts load.page then 2 else 1
 
 -- with each page that is counted its whole line is
 pub record AreWholeLines (s : Shape) (counts : List ℕ) : Type 0 where

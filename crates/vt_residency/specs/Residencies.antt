@@ -8,12 +8,12 @@ use Rattle.vt_pages.specs.Pages.{pages_of}
 use Rattle.vt_feedback.specs.declared.Wanted.{Wanted}
 use Rattle.vt_feedback.specs.Wants.{IsWants}
 use Rattle.vt_evict.specs.PlanTypes.batches.Planned.{Planned}
-use Rattle.vt_plan.specs.Views.{RecencyView, IsTable, free_frames, touched, first_view}
-use Rattle.vt_evict.specs.Batches.{IsLawful, IsSettled, read_entries}
+use Rattle.vt_plan.specs.Views.{RecencyView, IsRecencyTable, free_frames, touched, first_view}
+use Rattle.vt_evict.specs.Batches.{IsLawfulBatch, IsSettledByReads, read_entries}
 use Rattle.vt_plan.specs.Plans.{plan_of}
 use Rattle.vt_residency.specs.Tallies.{IsTally}
 use Rattle.vt_residency.specs.Loads.{is_apart}
-use Rattle.vt_residency.specs.Changes.{changes_of}
+use Rattle.vt_residency.specs.Changes.{load_changes}
 use Rattle.vt_residency.specs.declared.residency.Info.{Info}
 
 -- the table, the loads that are under way, and the loads that came by the last settling
@@ -25,10 +25,10 @@ pub record ResidencyView : Type 0 where
 -- what always holds of a residency: its loads are lawful for its table, and no pixel is counted
 pub record IsResidency (s : Shape) (v : RecencyView) (counts : List ℕ) (pages : ListView ℕ) (loads came : List Planned) : Type 0 where
   pub shape : v.shape ≡ s
-  pub table : IsTable v
+  pub table : IsRecencyTable v
   pub tally : IsTally (pages_of s) counts pages
   pub none : pages.elements ≡ []
-  pub lawful : IsLawful v loads
+  pub lawful : IsLawfulBatch v loads
   pub few_loads : length loads ≤ most_frames
   pub few_came : length came ≤ most_frames
 
@@ -54,7 +54,7 @@ pub record IsPassed (old : ResidencyView) (pixels : ℕ → ℕ) (q : ℕ) (new 
   pub came : new.came ≡ old.came
 
 -- after a pass that was refused memory: at most the order changed
-pub record IsKept (old new : ResidencyView) : Type 0 where
+pub record IsResidencyKept (old new : ResidencyView) : Type 0 where
   pub shape : new.table.shape ≡ old.table.shape
   pub entries : new.table.entries ≡ old.table.entries
   pub loads : new.loads ≡ old.loads
@@ -70,7 +70,7 @@ is_over state = not (nat_eq state 2)
 
 -- after a settling: the loads that came are settled and told, and those that are under way stay so
 pub record IsCommitted (old : ResidencyView) (states : List ℕ) (new : ResidencyView) : Type 0 where
-  pub settled : IsSettled old.table (read_entries old.loads (map has_not_come states)) new.table
+  pub settled : IsSettledByReads old.table (read_entries old.loads (map has_not_come states)) new.table
   pub came : new.came ≡ read_entries old.loads (map has_not_come states)
   pub loads : new.loads ≡ read_entries old.loads (map is_over states)
 
@@ -79,4 +79,4 @@ pub record IsInfo (v : ResidencyView) (i : Info) : Type 0 where
   pub pages : i.pages ≡ pages_of v.table.shape
   pub free : i.free ≡ length (free_frames v.table)
   pub loads : i.loads ≡ length v.loads
-  pub changes : i.changes ≡ length (flat_map changes_of v.came)
+  pub changes : i.changes ≡ length (flat_map load_changes v.came)

@@ -2,7 +2,7 @@
 
 ghost use Rattle.std.specs.Prelude.{◌≡◌, ◌+◌, ◌^◌, ◌<◌, ◌≤◌, ◌++◌, Option, None, Some, take, drop, length};
 ghost use Rattle.std.specs.List.{flat_map};
-ghost use Rattle.vt_residency.specs.Changes.{changes_of, HasChanges};
+ghost use Rattle.vt_residency.specs.Changes.{load_changes, HasChanges};
 
 use vt_evict::Planned;
 
@@ -17,7 +17,7 @@ pub struct Change {
 
 // How many changes a load makes.
 fn count_of(load: &Planned) -> usize
-    ensures { result ≡ length (changes_of load.now) }
+    ensures { result ≡ length (load_changes load.now) }
 {
     match load.victim {
         Some(_) => 2,
@@ -28,7 +28,7 @@ fn count_of(load: &Planned) -> usize
 /// How many changes loads make.
 pub fn change_count(loads: &[Planned]) -> usize
     requires { length loads.now < 2 ^ 31 }
-    ensures count { result ≡ length (flat_map changes_of loads.now) }
+    ensures count { result ≡ length (flat_map load_changes loads.now) }
     ensures few { result < 2 ^ 32 }
 {
     let mut count = 0;
@@ -40,9 +40,9 @@ pub fn change_count(loads: &[Planned]) -> usize
 
 // Writes the changes of a load behind those that are at the front of a list.
 fn put(load: &Planned, out: &mut [Change], from: usize)
-    requires { from + length (changes_of load.now) ≤ length out.old }
-    ensures changes { take (from + length (changes_of load.now)) out.new ≡ take from out.old ++ changes_of load.now }
-    ensures rest { drop (from + length (changes_of load.now)) out.new ≡ drop (from + length (changes_of load.now)) out.old }
+    requires { from + length (load_changes load.now) ≤ length out.old }
+    ensures changes { take (from + length (load_changes load.now)) out.new ≡ take from out.old ++ load_changes load.now }
+    ensures rest { drop (from + length (load_changes load.now)) out.new ≡ drop (from + length (load_changes load.now)) out.old }
     ensures long { length out.new ≡ length out.old }
 {
     let map = Change {
@@ -65,9 +65,9 @@ fn put(load: &Planned, out: &mut [Change], from: usize)
 
 // Writes the changes of loads to the front of a list that is as long at least.
 fn fill(loads: &[Planned], out: &mut [Change])
-    requires { length (flat_map changes_of loads.now) ≤ length out.old }
-    ensures changes { take (length (flat_map changes_of loads.now)) out.new ≡ flat_map changes_of loads.now }
-    ensures rest { drop (length (flat_map changes_of loads.now)) out.new ≡ drop (length (flat_map changes_of loads.now)) out.old }
+    requires { length (flat_map load_changes loads.now) ≤ length out.old }
+    ensures changes { take (length (flat_map load_changes loads.now)) out.new ≡ flat_map load_changes loads.now }
+    ensures rest { drop (length (flat_map load_changes loads.now)) out.new ≡ drop (length (flat_map load_changes loads.now)) out.old }
     ensures long { length out.new ≡ length out.old }
 {
     let mut count = 0;

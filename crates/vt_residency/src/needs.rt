@@ -4,7 +4,7 @@ ghost use Rattle.std.specs.Prelude.{◌≡◌, ℕ, ◌<◌, ◌||◌, if◌then
 ghost use Rattle.std.specs.List.{All};
 ghost use Rattle.vt_pages.specs.Pages.{IsWithinLimits, pages_of, ancestors_of};
 ghost use Rattle.vt_evict.specs.PageLists.{is_in};
-ghost use Rattle.vt_residency.specs.Needs.{AreWholeLines, is_counted, is_needed, needs, state_by};
+ghost use Rattle.vt_residency.specs.Needs.{AreWholeLines, is_counted, is_needed, needs, load_state_by};
 ghost use Rattle.vt_residency.specs.Tallies.{IsTally};
 
 use crate::tally::Tally;
@@ -73,7 +73,7 @@ pub fn put_states(loads: &[Planned], tally: &Tally, pages: u32, states: &mut [u8
     requires long { length states.old ≡ length loads.now }
     requires tally { IsTally pages tally.now.counts.items tally.now.pages }
     requires inside { All (λ e. e.page < pages) loads.now }
-    ensures { states.new ≡ map (state_by tally.now.counts.items) loads.now }
+    ensures { states.new ≡ map (load_state_by tally.now.counts.items) loads.now }
 {
     for i in 0..loads.len() {
         states[i] = state_of(tally.is_counted(pages, loads[i].page));

@@ -3,7 +3,7 @@
 ghost use Rattle.std.specs.Prelude.{◌≡◌, ◌+◌, ◌<◌, length, slice_index, MatchOption, None};
 ghost use Rattle.vt_pages.specs.Pages.{IsWithinLimits, pages_of};
 ghost use Rattle.vt_pages.specs.Lookups.{lookup};
-ghost use Rattle.vt_evict.specs.Missing.{is_mapped};
+ghost use Rattle.vt_evict.specs.Missing.{has_frame};
 ghost use Rattle.vt_residency.specs.Places.{IsPlaceOf};
 
 use vt_pages::Geometry;
@@ -33,7 +33,7 @@ pub fn find(geometry: &Geometry, entries: &[u32], page: u32) -> Option<Place>
     requires long { length entries.now ≡ pages_of geometry.now }
     requires limits { IsWithinLimits geometry.now }
     requires inside { page < pages_of geometry.now }
-    ensures { MatchOption result (lookup geometry.now (is_mapped entries.now) page ≡ None) (IsPlaceOf geometry.now entries.now page) }
+    ensures { MatchOption result (lookup geometry.now (has_frame entries.now) page ≡ None) (IsPlaceOf geometry.now entries.now page) }
 {
     match frame_at(entries, page) {
         Some(frame) => Some(Place {

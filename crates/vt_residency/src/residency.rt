@@ -7,13 +7,13 @@ ghost use Rattle.vt_residency.specs.Levels.{IsLevelTable, HasLevelLength};
 ghost use Rattle.vt_pages.specs.Limits.{most_frames};
 ghost use Rattle.vt_pages.specs.Pages.{IsWithinLimits, pages_of, pages_below, levels_of};
 ghost use Rattle.vt_pages.specs.Lookups.{lookup};
-ghost use Rattle.vt_evict.specs.Missing.{is_mapped};
-ghost use Rattle.vt_plan.specs.Views.{IsTable, free_frames};
-ghost use Rattle.vt_evict.specs.Batches.{IsLawful, read_entries};
+ghost use Rattle.vt_evict.specs.Missing.{has_frame};
+ghost use Rattle.vt_plan.specs.Views.{IsRecencyTable, free_frames};
+ghost use Rattle.vt_evict.specs.Batches.{IsLawfulBatch, read_entries};
 ghost use Rattle.vt_residency.specs.Places.{IsPlaceOf};
 ghost use Rattle.vt_residency.specs.Needs.{state_for};
 ghost use Rattle.vt_residency.specs.Tallies.{IsTally, pixels_of, one_pixel};
-ghost use Rattle.vt_residency.specs.Residencies.{IsPlanned, IsPassed, IsKept, IsCommitted, IsInfo, first_residency, pinned_at, has_not_come, is_over};
+ghost use Rattle.vt_residency.specs.Residencies.{IsPlanned, IsPassed, IsResidencyKept, IsCommitted, IsInfo, first_residency, pinned_at, has_not_come, is_over};
 
 use crate::changes::change_count;
 use crate::feedback::{Listed, add_counts, add_listed, add_pages};
@@ -68,18 +68,18 @@ fn plan_on(
     q: u32,
 ) -> Result<(), NoMemory>
     requires shape { recency.old.shape ≡ geometry.now }
-    requires table { IsTable recency.old }
+    requires table { IsRecencyTable recency.old }
     requires tally { IsTally (pages_of geometry.now) tally.old.counts.items tally.old.pages }
-    requires lawful { IsLawful recency.old loads.old.elements }
+    requires lawful { IsLawfulBatch recency.old loads.old.elements }
     ensures planned { OnOk result (IsPlanned geometry.now recency.old loads.old.elements (slice_index tally.old.counts.items) q
         recency.new loads.new.elements) }
     ensures loads { OnErr result (loads.new.elements ≡ loads.old.elements) }
     ensures shape { recency.new.shape ≡ recency.old.shape }
     ensures entries { recency.new.entries ≡ recency.old.entries }
-    ensures table { IsTable recency.new }
+    ensures table { IsRecencyTable recency.new }
     ensures tally { IsTally (pages_of geometry.now) tally.new.counts.items tally.new.pages }
     ensures none { tally.new.pages.elements ≡ [] }
-    ensures lawful { IsLawful recency.new loads.new.elements }
+    ensures lawful { IsLawfulBatch recency.new loads.new.elements }
     ensures few { length loads.new.elements ≤ most_frames }
 {
     let _table = recency.entries().len();
@@ -183,7 +183,7 @@ impl Residency {
     pub fn pass_counts(&mut self, alloc: Global, pixels: &[u32], q: u32) -> Result<(), NoMemory>
         requires { length pixels.now ≡ pages_of self.old.table.shape }
         ensures passed { OnOk result (IsPassed self.old (slice_index pixels.now) q self.new) }
-        ensures kept { OnErr result (IsKept self.old self.new) }
+        ensures kept { OnErr result (IsResidencyKept self.old self.new) }
     {
         let pages = self.geometry.page_count();
         add_counts(&mut self.tally, pages, pixels);
@@ -201,7 +201,7 @@ impl Residency {
     pub fn pass_listed(&mut self, alloc: Global, list: &[Listed], q: u32) -> Result<(), NoMemory>
         requires { All (λ w. w.page < pages_of self.old.table.shape) list.now }
         ensures passed { OnOk result (IsPassed self.old (pixels_of list.now) q self.new) }
-        ensures kept { OnErr result (IsKept self.old self.new) }
+        ensures kept { OnErr result (IsResidencyKept self.old self.new) }
     {
         let pages = self.geometry.page_count();
         add_listed(&mut self.tally, pages, list);
@@ -218,7 +218,7 @@ impl Residency {
     /// Takes a list of pages, each wanted by one pixel, and plans for them with at most `q` entries.
     pub fn pass_pages(&mut self, alloc: Global, list: &[u32], q: u32) -> Result<(), NoMemory>
         ensures passed { OnOk result (IsPassed self.old (pixels_of (map one_pixel list.now)) q self.new) }
-        ensures kept { OnErr result (IsKept self.old self.new) }
+        ensures kept { OnErr result (IsResidencyKept self.old self.new) }
     {
         let pages = self.geometry.page_count();
         add_pages(&mut self.tally, pages, list);

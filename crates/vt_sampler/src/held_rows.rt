@@ -8,7 +8,7 @@ ghost use Rattle.vt_pages.specs.Pages.{pages_of};
 ghost use Rattle.vt_lookup.specs.Shots.{shot_row, wants_in_rows};
 ghost use Rattle.vt_lookup.specs.Evidence.{AreShown};
 ghost use Rattle.vt_lookup.specs.Tokens.{IsPassOf};
-ghost use Rattle.vt_lookup.specs.Notes.{Fits, IsNotedIn, HasHeldMore};
+ghost use Rattle.vt_lookup.specs.Notes.{FitsShape, IsNotedIn, HasHeldMore};
 ghost use Rattle.vt_sampler.specs.Held.{WasHeld};
 ghost use Rattle.vt_sampler.specs.Samplers.{own_rows, row_in, row_length};
 
@@ -30,7 +30,7 @@ pub(crate) fn draw_held_rows<P: Filter, G: Gate>(
     counts: &mut [u32],
 ) -> Pass
     requires of { IsPassOf words.now pass }
-    requires fits { Fits shot.now.geometry.now words.now.sizes }
+    requires fits { FitsShape shot.now.geometry.now words.now.sizes }
     requires rooted { pass.view.rooted ≡ true }
     requires own { pass.view.sampler ≡ sampler }
     requires one_of { sampler < samplers }

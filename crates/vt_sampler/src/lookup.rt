@@ -3,9 +3,9 @@
 ghost use Rattle.std.specs.Prelude.{◌≡◌, ◌*◌, ◌<◌, Some, None, length, IfSome, IfNone};
 ghost use Rattle.vt_pages.specs.Pages.{pages_of, index_of, IsPage};
 ghost use Rattle.vt_table.specs.Changes.{newest};
-ghost use Rattle.vt_lookup.specs.Lookups.{IsFinest};
-ghost use Rattle.vt_table.specs.Views.{TableView, IsMapped, word_in};
-ghost use Rattle.vt_sampler.specs.Notes.{IsTrueOf, MapsRoot};
+ghost use Rattle.vt_lookup.specs.Lookups.{IsFinestFound};
+ghost use Rattle.vt_table.specs.Views.{TableView, IsMappedTo, word_in};
+ghost use Rattle.vt_sampler.specs.Notes.{IsTrueOf, TableMapsRoot};
 
 use std::marker::Model;
 use vt_definitions::word_in;
@@ -28,13 +28,13 @@ pub struct StillLookup<'a> {
 impl<'a> Model for StillLookup<'a> {
     ghost use Rattle.std.specs.Prelude.{◌≡◌, IfSome};
     ghost use Rattle.vt_table.specs.Views.{TableView};
-    ghost use Rattle.vt_sampler.specs.Notes.{MapsRoot, IsFound};
+    ghost use Rattle.vt_sampler.specs.Notes.{TableMapsRoot, IsFound};
 
     ghost Value = { TableView };
 
     ghost view = { λ l. l.table.now };
 
-    ghost invariant = { λ l. (l.table.now.shape ≡ l.geometry.now) × MapsRoot l.table.now
+    ghost invariant = { λ l. (l.table.now.shape ≡ l.geometry.now) × TableMapsRoot l.table.now
         × IfSome l.tile (λ tile. IsFound l.table.now l.slot l.depth tile.now) };
 }
 
@@ -43,7 +43,7 @@ impl<'a> StillLookup<'a> {
     #[inline(always)]
     #[tactic(auto, using(crate::proofs::Truths::found_word))]
     fn word(&self, frame: u32, place: u32) -> u64
-        requires mapped { IsMapped (newest self.now.changes) frame }
+        requires mapped { IsMappedTo (newest self.now.changes) frame }
         requires inside { place < self.now.shape.tile * self.now.shape.tile }
         ensures { result ≡ word_in self.now frame place }
     {
@@ -60,7 +60,7 @@ impl<'a> StillLookup<'a> {
     #[inline]
     pub fn new(table: &'a StillTable, geometry: &'a Geometry) -> StillLookup<'a>
         requires shape { table.now.shape ≡ geometry.now }
-        requires root { MapsRoot table.now }
+        requires root { TableMapsRoot table.now }
         ensures { result ≡ table.now }
     {
         StillLookup {
@@ -96,9 +96,9 @@ fn found_at(table: &StillTable, geometry: &Geometry, name: &PageName) -> Option<
 #[inline(never)]
 fn finest_mapped(table: &StillTable, geometry: &Geometry, page: u32) -> Found
     requires shape { table.now.shape ≡ geometry.now }
-    requires root { MapsRoot table.now }
+    requires root { TableMapsRoot table.now }
     requires page { page < pages_of geometry.now }
-    ensures { IsFinest geometry.now (length table.now.changes) (IsTrueOf table.now) page result }
+    ensures { IsFinestFound geometry.now (length table.now.changes) (IsTrueOf table.now) page result }
 {
     let name = geometry.page_at(page);
     let mut col = name.col;

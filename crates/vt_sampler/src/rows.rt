@@ -6,7 +6,7 @@ ghost use Rattle.vt_definitions.specs.Dealing.{sampler_of, own_count};
 ghost use Rattle.vt_definitions.specs.Depths.{IsDepth, texel_length};
 ghost use Rattle.vt_pages.specs.Pages.{pages_of};
 ghost use Rattle.vt_lookup.specs.Shots.{shot_row, AreDrawn, AreCounted, pixels_in_rows};
-ghost use Rattle.vt_sampler.specs.Notes.{IsTrueOf, MapsRoot};
+ghost use Rattle.vt_sampler.specs.Notes.{IsTrueOf, TableMapsRoot};
 ghost use Rattle.vt_sampler.specs.Samplers.{own_rows, row_in, row_length};
 
 use crate::lookup::StillLookup;
@@ -23,7 +23,7 @@ fn draw_one_row(table: &StillTable, shot: &Shot, y: u32, out: &mut [u8], counts:
     requires pages { length counts.old ≡ pages_of shot.now.geometry.now }
     requires room { (p : ℕ) → p < length counts.old → slice_index counts.old p + shot.now.path.now.width < 2 ^ 32 }
     requires shape { table.now.shape ≡ shot.now.geometry.now }
-    requires root { MapsRoot table.now }
+    requires root { TableMapsRoot table.now }
     ensures drawn { let row = shot_row shot.now.geometry.now shot.now.path.now shot.now.picture y in
         AreDrawn shot.now.geometry.now shot.now.depth (length table.now.changes) (IsTrueOf table.now) row
         shot.now.path.now.width out.new }
@@ -66,7 +66,7 @@ pub(crate) fn draw_rows(
     requires pages { length counts.old ≡ pages_of shot.now.geometry.now }
     requires none { (p : ℕ) → p < length counts.old → slice_index counts.old p ≡ 0 }
     requires shape { table.now.shape ≡ shot.now.geometry.now }
-    requires root { MapsRoot table.now }
+    requires root { TableMapsRoot table.now }
     ensures drawn { (y : ℕ) → y < shot.now.path.now.height → sampler_of y samplers ≡ sampler
         → let row = shot_row shot.now.geometry.now shot.now.path.now shot.now.picture y in
         let line = row_length shot.now.depth shot.now.path.now.width in

@@ -6,9 +6,9 @@ ghost use Rattle.vt_definitions.specs.Depths.{IsDepth};
 ghost use Rattle.vt_lookup.specs.Shots.{shot_row, AreDrawn, wants_in_rows, pixels_in_rows};
 ghost use Rattle.vt_lookup.specs.Evidence.{AreShown};
 ghost use Rattle.vt_lookup.specs.Tokens.{IsPassOf};
-ghost use Rattle.vt_lookup.specs.Notes.{Fits, IsNotedIn, HasHeldMore};
+ghost use Rattle.vt_lookup.specs.Notes.{FitsShape, IsNotedIn, HasHeldMore};
 ghost use Rattle.vt_sampler.specs.Held.{WasHeld};
-ghost use Rattle.vt_sampler.specs.Notes.{IsTrueOf, MapsRoot};
+ghost use Rattle.vt_sampler.specs.Notes.{IsTrueOf, TableMapsRoot};
 ghost use Rattle.vt_sampler.specs.Samplers.{SamplerView, IsOwn, IsFor, IsSampler, own_rows, row_length, row_at, version_at};
 
 use crate::held_rows::draw_held_rows;
@@ -105,7 +105,7 @@ impl Sampler {
         requires for_it { IsFor self.old shot.now.geometry.now shot.now.path.now shot.now.depth }
         requires picture { shot.now.picture < length shot.now.path.now.cameras }
         requires shape { table.now.shape ≡ shot.now.geometry.now }
-        requires root { MapsRoot table.now }
+        requires root { TableMapsRoot table.now }
         ensures drawn { (y : ℕ) → IsOwn self.new y
             → let row = shot_row shot.now.geometry.now shot.now.path.now shot.now.picture y in
             AreDrawn shot.now.geometry.now shot.now.depth (version_at self.new y) (IsTrueOf table.now) row
@@ -146,7 +146,7 @@ impl Sampler {
     ) -> Pass
         requires for_it { IsFor self.old shot.now.geometry.now shot.now.path.now shot.now.depth }
         requires picture { shot.now.picture < length shot.now.path.now.cameras }
-        requires fits { Fits shot.now.geometry.now words.now.sizes }
+        requires fits { FitsShape shot.now.geometry.now words.now.sizes }
         requires of { IsPassOf words.now pass }
         requires rooted { pass.view.rooted ≡ true }
         requires own { pass.view.sampler ≡ self.old.sampler }
@@ -185,7 +185,7 @@ impl Sampler {
     pub fn draw<G: Gate>(&mut self, shot: &Shot, words: &Words, pass: Pass, gate: &G) -> Pass
         requires for_it { IsFor self.old shot.now.geometry.now shot.now.path.now shot.now.depth }
         requires picture { shot.now.picture < length shot.now.path.now.cameras }
-        requires fits { Fits shot.now.geometry.now words.now.sizes }
+        requires fits { FitsShape shot.now.geometry.now words.now.sizes }
         requires of { IsPassOf words.now pass }
         requires rooted { pass.view.rooted ≡ true }
         requires own { pass.view.sampler ≡ self.old.sampler }

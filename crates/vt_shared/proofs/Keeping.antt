@@ -10,17 +10,17 @@ use Rattle.vt_grace.specs.WriterViews.{version_of}
 use Rattle.vt_streamer.specs.Banks.{HasPublished}
 use Rattle.vt_streamer.specs.Fills.{words_in}
 use Rattle.vt_streamer.specs.Frees.{IsUnmappedBy}
-use Rattle.vt_streamer.specs.Looks.{HasLooked, IsFirstBehind}
+use Rattle.vt_streamer.specs.Looks.{HasOnlyLooked, IsFirstBehind}
 use Rattle.vt_streamer.specs.Views.{StreamerView}
-use Rattle.vt_shared.specs.Owners.{HasKept, HasWritten, HasMapped, WasLeft, IsAwaited, AwaitsBank, AwaitsFrame}
+use Rattle.vt_shared.specs.Owners.{HasKeptOwner, HasWrittenFrame, HasMappedNext, WasLeft, IsSamplerAwaited, AwaitsBank, AwaitsFrame}
 
 -- nothing was published either
 pub record HasSame (v w : StreamerView) : Type 0 where
-  pub kept : HasKept v w
+  pub kept : HasKeptOwner v w
   pub journal : w.writer.journal ≡ v.writer.journal
   pub contents : w.writer.contents ≡ v.writer.contents
 
-pub kept_both : (u v w : StreamerView) → HasKept u v → HasKept v w → HasKept u w
+pub kept_both : (u v w : StreamerView) → HasKeptOwner u v → HasKeptOwner v w → HasKeptOwner u w
 kept_both u v w a b = record {
   table = b.table ∙ a.table;
   shape = b.shape ∙ a.shape;
@@ -47,7 +47,7 @@ same_none v = record {
 }
 
 -- samplers were looked at
-pub same_looked : (v w : StreamerView) → HasLooked v.writer w.writer → w ≡ record v { writer = w.writer } → HasSame v w
+pub same_looked : (v w : StreamerView) → HasOnlyLooked v.writer w.writer → w ≡ record v { writer = w.writer } → HasSame v w
 same_looked v w looked e = record {
   kept = record {
     table = ap (λ (y : StreamerView). y.table) e;
@@ -79,7 +79,7 @@ same_filled v w e = record {
 }
 
 -- a change was published
-pub kept_published : (v w : StreamerView) (change : Change) → HasPublished v.writer w.writer change → w.table ≡ v.table → w.shape ≡ v.shape → HasKept v w
+pub kept_published : (v w : StreamerView) (change : Change) → HasPublished v.writer w.writer change → w.table ≡ v.table → w.shape ≡ v.shape → HasKeptOwner v w
 kept_published v w change h table shape = record {
   table = table;
   shape = shape;
@@ -91,21 +91,21 @@ kept_published v w change h table shape = record {
 }
 
 -- looks said that a frame may be filled
-pub was_left : (v w : StreamerView) (frame : ℕ) → HasLooked v.writer w.writer → MayFill w.writer frame → WasLeft v.writer frame
+pub was_left : (v w : StreamerView) (frame : ℕ) → HasOnlyLooked v.writer w.writer → MayFill w.writer frame → WasLeft v.writer frame
 was_left v w frame looked may = record { seen = w.writer; looked = looked; may = may }
 
 -- nothing was written where samplers were looked at
-pub written_none : (v w : StreamerView) (frame : ℕ) → HasLooked v.writer w.writer → HasWritten v frame w
+pub written_none : (v w : StreamerView) (frame : ℕ) → HasOnlyLooked v.writer w.writer → HasWrittenFrame v frame w
 written_none v w frame looked = let same : w.writer.texels ≡ v.writer.texels = ap (λ (y : WriterView). y.texels) looked.rest in record {
   others = λ f low other. ap (λ (t : List ℕ). frame_words v.writer.sizes t f) same;
   own = inl same;
 }
 
 -- and one frame where looks said that it may be filled
-pub written_one : (z : Sizes) (v w x y : StreamerView) (frame : ℕ) → v.writer.sizes ≡ z → HasLooked v.writer w.writer → w ≡ record v { writer = w.writer }
+pub written_one : (z : Sizes) (v w x y : StreamerView) (frame : ℕ) → v.writer.sizes ≡ z → HasOnlyLooked v.writer w.writer → w ≡ record v { writer = w.writer }
     → MayFill w.writer frame
     → ((f : ℕ) → f < length w.owners → f ≢ frame → frame_words z x.writer.texels f ≡ frame_words z w.writer.texels f)
-    → y.writer.texels ≡ x.writer.texels → HasWritten v frame y
+    → y.writer.texels ≡ x.writer.texels → HasWrittenFrame v frame y
 written_one z v w x y frame sizes looked rest may filled after = record {
   others = λ f low other.
       let count : length w.owners ≡ length v.owners = ap (λ (u : StreamerView). length u.owners) rest in
@@ -117,7 +117,7 @@ written_one z v w x y frame sizes looked rest may filled after = record {
 }
 
 -- whom a step waits for
-awaited : (v w : WriterView) (least k h : ℕ) → HasLooked v w → IsFirstBehind v w least k h → IsAwaited w least k h
+awaited : (v w : WriterView) (least k h : ℕ) → HasOnlyLooked v w → IsFirstBehind v w least k h → IsSamplerAwaited w least k h
 awaited v w least k h looked first = record {
   inside = subst (λ (y : Sizes). k < y.samplers) (sym (ap (λ (x : WriterView). x.sizes) looked.rest)) first.inside;
   below = first.behind.below;
@@ -127,12 +127,12 @@ awaited v w least k h looked first = record {
   others = first.others;
 }
 
-pub bank_awaited : (u v w : StreamerView) (k h : ℕ) → HasSame u v → HasLooked v.writer w.writer
+pub bank_awaited : (u v w : StreamerView) (k h : ℕ) → HasSame u v → HasOnlyLooked v.writer w.writer
     → IsFirstBehind v.writer w.writer (version_of v.writer - 2) k h → AwaitsBank u w k h
 bank_awaited u v w k h same looked first =
-    subst (λ (js : List Change). IsAwaited w.writer (length js - 2) k h) same.journal (awaited v.writer w.writer (version_of v.writer - 2) k h looked first)
+    subst (λ (js : List Change). IsSamplerAwaited w.writer (length js - 2) k h) same.journal (awaited v.writer w.writer (version_of v.writer - 2) k h looked first)
 
-pub frame_awaited : (u v w : StreamerView) (frame k h : ℕ) → HasSame u v → HasLooked v.writer w.writer
+pub frame_awaited : (u v w : StreamerView) (frame k h : ℕ) → HasSame u v → HasOnlyLooked v.writer w.writer
     → (version : ℕ) × IsUnmappedBy v.writer.journal frame version × IsFirstBehind v.writer w.writer version k h → AwaitsFrame u frame w k h
 frame_awaited u v w frame k h same looked p = record {
   version = p.0;
@@ -141,7 +141,7 @@ frame_awaited u v w frame k h same looked p = record {
 }
 
 pub has_mapped : (z : Sizes) (u w x : StreamerView) (page frame : ℕ) (tile : List ℕ) → WasLeft u.writer frame → HasSame u w → w.writer.sizes ≡ z
-    → frame_words z w.writer.texels frame ≡ words_in u.shape tile → HasPublished w.writer x.writer (Map page frame) → HasMapped u page frame tile x
+    → frame_words z w.writer.texels frame ≡ words_in u.shape tile → HasPublished w.writer x.writer (Map page frame) → HasMappedNext u page frame tile x
 has_mapped z u w x page frame tile left same sizes content h =
     let brought = ap (λ (y : Sizes). frame_words y w.writer.texels frame) sizes ∙ content in record {
       left = left;

@@ -144,13 +144,13 @@ module _ (w : WriterView) (q : PassView) (sound : IsSound (after_return w q))
       }
 
 -- so it is for the streamer that took the pass back
-pub told_back : (v x : StreamerView) (q left : PassView) (d : ℕ) → x ≡ record v { writer = after_return v.writer q } → q ≡ left → IsSound x.writer
+pub pass_noted_back : (v x : StreamerView) (q left : PassView) (d : ℕ) → x ≡ record v { writer = after_return v.writer q } → q ≡ left → IsSound x.writer
     → ((js : List Change) (cs : List (List ℕ)) (u p : ℕ) → at js u p ≡ frame_in (backed js cs u p))
     → ((js : List Change) (cs : List (List ℕ)) (u p g : ℕ) (c : List ℕ) → backed js cs u p ≡ Some (g, c) → IsPutBy js cs u p g c)
     → IsDepth d → 2 ≤ v.shape.tile → AreOfTiles v.shape d v.writer.journal v.writer.contents
     → (version : ℕ) (p : Point) (bytes : List ℕ) → IsAnswered x.shape d version (IsNotedIn left) p bytes
     → IsOfItsTile x.shape d x.writer.journal x.writer.contents version p bytes
-told_back v x q left d e same sound frames puts deep least are version p bytes h =
+pass_noted_back v x q left d e same sound frames puts deep least are version p bytes h =
     let P : StreamerView → Type 0 = λ y. IsSound y.writer → IsAnswered y.shape d version (IsNotedIn q) p bytes
     → IsOfItsTile y.shape d y.writer.journal y.writer.contents version p bytes in
     subst P (sym e) (λ is answered. of_its_tile v.writer q is frames puts v.shape d version p bytes deep least are answered) sound

@@ -10,7 +10,7 @@ use Rattle.vt_grace.specs.Values.{WordsValue}
 use Rattle.vt_grace.specs.WriterViews.{version_of, floor_of}
 use Rattle.vt_streamer.specs.Fills.{words_in}
 use Rattle.vt_streamer.specs.Frees.{IsUnmappedBy}
-use Rattle.vt_streamer.specs.Looks.{HasLooked}
+use Rattle.vt_streamer.specs.Looks.{HasOnlyLooked}
 use Rattle.vt_streamer.specs.Views.{StreamerView, IsStreamerOf}
 use Rattle.vt_shared.specs.Given.{AreOfTiles}
 
@@ -28,7 +28,7 @@ pub record IsOwning (words : WordsValue) (v : StreamerView) (out : List Bool) (d
   pub given : AreOfTiles v.shape depth v.writer.journal v.writer.contents
 
 -- the shape, the frames, the passes that are out, and all that was taken back are as they were
-pub record HasKept (v w : StreamerView) : Type 0 where
+pub record HasKeptOwner (v w : StreamerView) : Type 0 where
   pub table : w.table ≡ v.table
   pub shape : w.shape ≡ v.shape
   pub sizes : w.writer.sizes ≡ v.writer.sizes
@@ -40,27 +40,27 @@ pub record HasKept (v w : StreamerView) : Type 0 where
 -- looks at the samplers said that none may still hold a version that maps the frame
 pub record WasLeft (v : WriterView) (frame : ℕ) : Type 0 where
   pub seen : WriterView
-  pub looked : HasLooked v seen
+  pub looked : HasOnlyLooked v seen
   pub may : MayFill seen frame
 
 -- no frame was written but this one, and this one only once looks said that none may still hold a version that maps it
-pub record HasWritten (v : StreamerView) (frame : ℕ) (w : StreamerView) : Type 0 where
+pub record HasWrittenFrame (v : StreamerView) (frame : ℕ) (w : StreamerView) : Type 0 where
   pub others : (f : ℕ) → f < length v.owners → f ≢ frame → frame_words v.writer.sizes w.writer.texels f ≡ frame_words v.writer.sizes v.writer.texels f
   pub own : (w.writer.texels ≡ v.writer.texels) ⊎ WasLeft v.writer frame
 
 -- the next version maps a page to a frame, with the words of a tile; the frame was filled when no sampler could hold a version that maps it
-pub record HasMapped (v : StreamerView) (page frame : ℕ) (tile : List ℕ) (w : StreamerView) : Type 0 where
+pub record HasMappedNext (v : StreamerView) (page frame : ℕ) (tile : List ℕ) (w : StreamerView) : Type 0 where
   pub left : WasLeft v.writer frame
   pub journal : w.writer.journal ≡ v.writer.journal ++ Map page frame ∷ []
   pub contents : w.writer.contents ≡ v.writer.contents ++ words_in v.shape tile ∷ []
 
 -- the next version takes a page out of its frame
-pub record HasUnmapped (v : StreamerView) (page frame : ℕ) (w : StreamerView) : Type 0 where
+pub record HasUnmappedNext (v : StreamerView) (page frame : ℕ) (w : StreamerView) : Type 0 where
   pub journal : w.writer.journal ≡ v.writer.journal ++ Unmap page frame ∷ []
   pub contents : w.writer.contents ≡ v.writer.contents ++ [] ∷ []
 
 -- a sampler is waited for, the least that may hold a version below one: it announced one of them when it was looked at last
-pub record IsAwaited (w : WriterView) (least sampler holds : ℕ) : Type 0 where
+pub record IsSamplerAwaited (w : WriterView) (least sampler holds : ℕ) : Type 0 where
   pub inside : sampler < w.sizes.samplers
   pub below : holds < least
   pub low : floor_of w sampler < least
@@ -70,13 +70,13 @@ pub record IsAwaited (w : WriterView) (least sampler holds : ℕ) : Type 0 where
 
 -- the next version waits for a sampler that may hold one more than two before the newest
 abbrev pub AwaitsBank : StreamerView → StreamerView → ℕ → ℕ → Type 0
-AwaitsBank v w sampler holds = IsAwaited w.writer (version_of v.writer - 2) sampler holds
+AwaitsBank v w sampler holds = IsSamplerAwaited w.writer (version_of v.writer - 2) sampler holds
 
 -- or a frame waits for a sampler that may hold a version before the one that unmapped it
 pub record AwaitsFrame (v : StreamerView) (frame : ℕ) (w : StreamerView) (sampler holds : ℕ) : Type 0 where
   pub version : ℕ
   pub unmapped : IsUnmappedBy v.writer.journal frame version
-  pub awaited : IsAwaited w.writer version sampler holds
+  pub awaited : IsSamplerAwaited w.writer version sampler holds
 
 -- a map waits for either
 abbrev pub AwaitsEither : StreamerView → ℕ → StreamerView → ℕ → ℕ → Type 0

@@ -14,7 +14,7 @@ ghost use Rattle.vt_grace.specs.Giving.{after_giving, after_return};
 ghost use Rattle.vt_lookup.specs.Notes.{IsNotedIn};
 ghost use Rattle.vt_texel_runs.specs.declared.points.Point.{Point};
 ghost use Rattle.vt_shared.specs.Given.{HasTileLength, IsOfItsTile};
-ghost use Rattle.vt_shared.specs.Owners.{HasWritten, HasMapped, HasUnmapped, HasKept, AwaitsBank, AwaitsEither};
+ghost use Rattle.vt_shared.specs.Owners.{HasWrittenFrame, HasMappedNext, HasUnmappedNext, HasKeptOwner, AwaitsBank, AwaitsEither};
 ghost use Rattle.vt_texel_runs.specs.Points.{IsAnswered};
 ghost use Rattle.vt_shared.specs.Readers.{left_by, IsAdmitted, IsReaderOf};
 
@@ -143,9 +143,9 @@ impl Owner {
         requires tile { HasTileLength self.old.streamer.shape self.old.depth (length tile.now) }
         requires room { length self.old.streamer.writer.journal < most_versions }
         ensures rest { self.new ≡ record self.old { streamer = self.new.streamer } }
-        ensures kept { HasKept self.old.streamer self.new.streamer }
-        ensures written { HasWritten self.old.streamer frame self.new.streamer }
-        ensures mapped { OnOk result (HasMapped self.old.streamer page frame tile.now self.new.streamer) }
+        ensures kept { HasKeptOwner self.old.streamer self.new.streamer }
+        ensures written { HasWrittenFrame self.old.streamer frame self.new.streamer }
+        ensures mapped { OnOk result (HasMappedNext self.old.streamer page frame tile.now self.new.streamer) }
         ensures waiting { IfErr result (λ w. AwaitsEither self.old.streamer frame self.new.streamer w.sampler w.holds) }
         ensures refused { OnErr result (self.new.streamer.writer.journal ≡ self.old.streamer.writer.journal) }
         ensures contents { OnErr result (self.new.streamer.writer.contents ≡ self.old.streamer.writer.contents) }
@@ -160,9 +160,9 @@ impl Owner {
         requires other { page ≢ root_of self.old.streamer.shape }
         requires room { length self.old.streamer.writer.journal < most_versions }
         ensures rest { self.new ≡ record self.old { streamer = self.new.streamer } }
-        ensures kept { HasKept self.old.streamer self.new.streamer }
+        ensures kept { HasKeptOwner self.old.streamer self.new.streamer }
         ensures written { self.new.streamer.writer.texels ≡ self.old.streamer.writer.texels }
-        ensures unmapped { OnOk result (HasUnmapped self.old.streamer page frame self.new.streamer) }
+        ensures unmapped { OnOk result (HasUnmappedNext self.old.streamer page frame self.new.streamer) }
         ensures waiting { IfErr result (λ w. AwaitsBank self.old.streamer self.new.streamer w.sampler w.holds) }
         ensures refused { OnErr result (self.new.streamer.writer.journal ≡ self.old.streamer.writer.journal) }
         ensures contents { OnErr result (self.new.streamer.writer.contents ≡ self.old.streamer.writer.contents) }

@@ -6,13 +6,13 @@ ghost use Rattle.std.specs.Bool.{MatchBool};
 ghost use Rattle.std.specs.Arc.{arc_value};
 ghost use Rattle.vt_definitions.specs.Depths.{IsDepth, texel_length};
 ghost use Rattle.vt_pages.specs.Pages.{pages_of};
-ghost use Rattle.vt_draw.specs.Lookups.{IsFinest};
+ghost use Rattle.vt_draw.specs.Lookups.{IsFinestFound};
 ghost use Rattle.vt_grace.specs.Tokens.{IsPassOf, IsHeldOf};
-ghost use Rattle.vt_lookup.specs.Notes.{Fits, IsNotedIn, HasNotedMore};
+ghost use Rattle.vt_lookup.specs.Notes.{FitsShape, IsNotedIn, HasNotedMore};
 ghost use Rattle.vt_texel_runs.specs.Points.{IsPoint, AreAnswered};
 ghost use Rattle.vt_texel_runs.specs.Blends.{AreBlendsAlong};
-ghost use Rattle.vt_shared.specs.Readers.{left_by, HoldsOne, HoldsNone, HasTakenHold, HasReleased, HasLookedUp, HasRead, HasReadRun, HasBlendedRun};
-ghost use Rattle.vt_texel_runs.specs.Spans.{IsRun, AreSpanned, AreWanted};
+ghost use Rattle.vt_shared.specs.Readers.{left_by, HoldsOne, HoldsNone, HasTakenHold, HasReleased, HasLookedUp, HasReadTexels, HasReadRun, HasBlendedRun};
+ghost use Rattle.vt_texel_runs.specs.Spans.{IsSpanInside, AreSpanned, AreWantedBySpan};
 ghost use Rattle.vt_shared.specs.declared.reader.Stand.TheVariants.{Resting};
 
 use std::alloc::Global;
@@ -49,25 +49,25 @@ pub struct Reader {
 
 impl Model for Reader {
     ghost use Rattle.std.specs.Arc.{arc_value};
-    ghost use Rattle.vt_shared.specs.Readers.{ReaderView, IsReading};
+    ghost use Rattle.vt_shared.specs.Readers.{SharedReaderView, IsReaderStanding};
 
-    ghost Value = { ReaderView };
+    ghost Value = { SharedReaderView };
 
     ghost view = { λ r. record { words = arc_value r.words; shape = r.geometry; depth = r.depth; sampler = r.sampler; stand = r.stand } };
 
-    ghost invariant = { λ r. IsReading (arc_value r.words) r.geometry r.depth r.sampler r.stand };
+    ghost invariant = { λ r. IsReaderStanding (arc_value r.words) r.geometry r.depth r.sampler r.stand };
 }
 
 // Looks a page up under a hold.
 fn find_under(held: Held, words: &Words, geometry: &Geometry, page: u32) -> (Held, Found)
     requires of { IsHeldOf words.now held }
-    requires fits { Fits geometry.now words.now.sizes }
+    requires fits { FitsShape geometry.now words.now.sizes }
     requires rooted { held.view.rooted ≡ true }
     requires page { page < pages_of geometry.now }
     ensures of { IsHeldOf words.now result.0 }
     ensures version { result.0.version ≡ held.version }
     ensures more { HasNotedMore held.view result.0.view }
-    ensures finest { IsFinest geometry.now result.0.version (IsNotedIn result.0.view) page result.1 }
+    ensures finest { IsFinestFound geometry.now result.0.version (IsNotedIn result.0.view) page result.1 }
 {
     let mut lookup = HeldLookup::new(held, words, geometry);
     let found = lookup.find(page);
@@ -84,7 +84,7 @@ fn read_under(
     out: &mut [u8],
 ) -> Held
     requires of { IsHeldOf words.now held }
-    requires fits { Fits geometry.now words.now.sizes }
+    requires fits { FitsShape geometry.now words.now.sizes }
     requires rooted { held.view.rooted ≡ true }
     requires depth { IsDepth depth }
     requires points { All (IsPoint geometry.now) points.now }
@@ -111,17 +111,17 @@ fn run_under(
     pages: &mut [u32],
 ) -> Held
     requires of { IsHeldOf words.now held }
-    requires fits { Fits geometry.now words.now.sizes }
+    requires fits { FitsShape geometry.now words.now.sizes }
     requires rooted { held.view.rooted ≡ true }
     requires depth { IsDepth depth }
-    requires inside { IsRun geometry.now span.now }
+    requires inside { IsSpanInside geometry.now span.now }
     requires bytes { length out.old ≡ texel_length depth * span.now.count }
     requires pages { length pages.old ≡ span.now.count }
     ensures of { IsHeldOf words.now result }
     ensures version { result.version ≡ held.version }
     ensures more { HasNotedMore held.view result.view }
     ensures answered { AreSpanned geometry.now depth result.version (IsNotedIn result.view) span.now span.now.count out.new }
-    ensures wanted { AreWanted geometry.now span.now span.now.count pages.new }
+    ensures wanted { AreWantedBySpan geometry.now span.now span.now.count pages.new }
 {
     let _levels = geometry.levels();
     let mut lookup = HeldLookup::new(held, words, geometry);
@@ -140,17 +140,17 @@ fn blends_under(
     pages: &mut [u32],
 ) -> Held
     requires of { IsHeldOf words.now held }
-    requires fits { Fits geometry.now words.now.sizes }
+    requires fits { FitsShape geometry.now words.now.sizes }
     requires rooted { held.view.rooted ≡ true }
     requires depth { IsDepth depth }
-    requires inside { IsRun geometry.now span.now }
+    requires inside { IsSpanInside geometry.now span.now }
     requires bytes { length out.old ≡ texel_length depth * span.now.count }
     requires pages { length pages.old ≡ span.now.count }
     ensures of { IsHeldOf words.now result }
     ensures version { result.version ≡ held.version }
     ensures more { HasNotedMore held.view result.view }
     ensures answered { AreBlendsAlong geometry.now depth result.version (IsNotedIn result.view) span.now span.now.count out.new }
-    ensures wanted { AreWanted geometry.now span.now span.now.count pages.new }
+    ensures wanted { AreWantedBySpan geometry.now span.now span.now.count pages.new }
 {
     let _levels = geometry.levels();
     let mut lookup = HeldLookup::new(held, words, geometry);
@@ -167,7 +167,7 @@ impl Reader {
         sampler: u32,
         pass: Pass,
     ) -> Reader
-        requires fits { Fits geometry (arc_value words).sizes }
+        requires fits { FitsShape geometry (arc_value words).sizes }
         requires depth { IsDepth depth }
         requires inside { sampler < (arc_value words).sizes.samplers }
         requires of { IsPassOf (arc_value words) pass }
@@ -272,7 +272,7 @@ impl Reader {
     pub fn texels(&mut self, points: &[Point], out: &mut [u8]) -> bool
         requires points { All (IsPoint self.old.shape) points.now }
         requires room { length out.old ≡ texel_length self.old.depth * length points.now }
-        ensures read { MatchBool result (HasRead self.old self.new points.now out.new) ((self.new ≡ self.old) × (out.new ≡ out.old)) }
+        ensures read { MatchBool result (HasReadTexels self.old self.new points.now out.new) ((self.new ≡ self.old) × (out.new ≡ out.old)) }
         ensures holds_none { MatchBool result (Unit {0}) (HoldsNone self.old) }
         ensures long { length out.new ≡ length out.old }
     {
@@ -293,7 +293,7 @@ impl Reader {
     /// Writes the bytes of a run of texels in the version that it holds, as `texels` does, and the page that each of them wants. False
     /// where it holds none.
     pub fn run(&mut self, span: &Span, out: &mut [u8], pages: &mut [u32]) -> bool
-        requires inside { IsRun self.old.shape span.now }
+        requires inside { IsSpanInside self.old.shape span.now }
         requires room { length out.old ≡ texel_length self.old.depth * span.now.count }
         requires pages { length pages.old ≡ span.now.count }
         ensures read { MatchBool result (HasReadRun self.old self.new span.now out.new pages.new)
@@ -327,7 +327,7 @@ impl Reader {
     /// Writes the bytes of a run of texels by bilinear filtering in the version that it holds, and the page that each of them wants, as
     /// `run` does by the nearest ones. False where it holds none.
     pub fn blended_run(&mut self, span: &Span, out: &mut [u8], pages: &mut [u32]) -> bool
-        requires inside { IsRun self.old.shape span.now }
+        requires inside { IsSpanInside self.old.shape span.now }
         requires room { length out.old ≡ texel_length self.old.depth * span.now.count }
         requires pages { length pages.old ≡ span.now.count }
         ensures read { MatchBool result (HasBlendedRun self.old self.new span.now out.new pages.new)

@@ -7,9 +7,9 @@ ghost use Rattle.vt_journal.specs.Changes.{newest, IsFree};
 ghost use Rattle.std.specs.Bool.{MatchBool};
 ghost use Rattle.vt_definitions.specs.Depths.{IsDepth};
 ghost use Rattle.vt_table.specs.Views.{IsTable};
-ghost use Rattle.vt_streamer.specs.Views.{IsStreamerOf, table_of};
+ghost use Rattle.vt_streamer.specs.Views.{IsStreamerOf, streamer_table};
 ghost use Rattle.vt_shared.specs.Given.{HasTileLength, AreOfTiles};
-ghost use Rattle.vt_shared.specs.Owners.{HasWritten, HasMapped, HasUnmapped, HasKept, AwaitsBank, AwaitsEither};
+ghost use Rattle.vt_shared.specs.Owners.{HasWrittenFrame, HasMappedNext, HasUnmappedNext, HasKeptOwner, AwaitsBank, AwaitsEither};
 
 use vt_grace::Words;
 use vt_journal::Change;
@@ -17,7 +17,7 @@ use vt_streamer::{TableWriter, Waiting};
 
 /// Whether no page is mapped to a frame: a frame that is mapped was filled for its page.
 pub(crate) fn is_free(streamer: &TableWriter, frame: u32) -> bool
-    requires lawful { IsTable (table_of streamer.now) }
+    requires lawful { IsTable (streamer_table streamer.now) }
     requires inside { frame < length streamer.now.owners }
     ensures { MatchBool result (IsFree (newest streamer.now.writer.journal) frame)
         (IsFree (newest streamer.now.writer.journal) frame → ⊥) }
@@ -57,10 +57,10 @@ pub(crate) fn put_page(
     requires given { AreOfTiles streamer.old.shape depth streamer.old.writer.journal streamer.old.writer.contents }
     requires room { length streamer.old.writer.journal < most_versions }
     ensures of { IsStreamerOf words.now streamer.new }
-    ensures kept { HasKept streamer.old streamer.new }
+    ensures kept { HasKeptOwner streamer.old streamer.new }
     ensures given { AreOfTiles streamer.new.shape depth streamer.new.writer.journal streamer.new.writer.contents }
-    ensures written { HasWritten streamer.old frame streamer.new }
-    ensures mapped { OnOk result (HasMapped streamer.old page frame tile.now streamer.new) }
+    ensures written { HasWrittenFrame streamer.old frame streamer.new }
+    ensures mapped { OnOk result (HasMappedNext streamer.old page frame tile.now streamer.new) }
     ensures waiting { IfErr result (λ w. AwaitsEither streamer.old frame streamer.new w.sampler w.holds) }
     ensures refused { OnErr result (streamer.new.writer.journal ≡ streamer.old.writer.journal) }
     ensures contents { OnErr result (streamer.new.writer.contents ≡ streamer.old.writer.contents) }
@@ -84,11 +84,11 @@ pub(crate) fn take_page(
     requires other { page ≢ root_of streamer.old.shape }
     requires room { length streamer.old.writer.journal < most_versions }
     ensures of { IsStreamerOf words.now streamer.new }
-    ensures kept { HasKept streamer.old streamer.new }
+    ensures kept { HasKeptOwner streamer.old streamer.new }
     ensures given { (d : ℕ) → AreOfTiles streamer.old.shape d streamer.old.writer.journal streamer.old.writer.contents
         → AreOfTiles streamer.new.shape d streamer.new.writer.journal streamer.new.writer.contents }
     ensures written { streamer.new.writer.texels ≡ streamer.old.writer.texels }
-    ensures unmapped { OnOk result (HasUnmapped streamer.old page frame streamer.new) }
+    ensures unmapped { OnOk result (HasUnmappedNext streamer.old page frame streamer.new) }
     ensures waiting { IfErr result (λ w. AwaitsBank streamer.old streamer.new w.sampler w.holds) }
     ensures refused { OnErr result (streamer.new.writer.journal ≡ streamer.old.writer.journal) }
     ensures contents { OnErr result (streamer.new.writer.contents ≡ streamer.old.writer.contents) }

@@ -13,7 +13,7 @@ use Rattle.vt_queue.specs.Steps.{IsAtStep, Takes}
 use Rattle.vt_queue.proofs.Gathered.{shuffled_as, append_nil, all_cut}
 use Rattle.vt_queue.proofs.OrderLemmas.{order_of, items_as_put, taken_first}
 use Rattle.vt_shared_rows.specs.declared.bag.RowJob.{RowJob}
-use Rattle.vt_shared_rows.specs.SharedRows.{rows_of, FitsRow, AreRowsPut, Rise, Took, HasTaken, HasEnded, EndsTaking}
+use Rattle.vt_shared_rows.specs.SharedRows.{rows_of, FitsRow, AreRowsPut, Rise, Took, HasTakenRows, HasEndedTaking, EndsTaking}
 
 -- a pass with all shares, where none is left
 module _ (height line : ℕ) (v : PassView RowJob) (whole : v.shares ≡ all_shares) (empty : IsAtStep v []) (put : AreRowsPut height line v.put) where
@@ -64,7 +64,7 @@ pub rows_push : (jobs : List RowJob) (job : RowJob) → rows_of (jobs ++ job ∷
 rows_push jobs job = map-append (λ (j : RowJob). j.row) jobs (job ∷ [])
 
 module _ (height line : ℕ) where
-  pub taken_none : (v : PassView RowJob) (kept : List RowJob) → kept ≡ [] → HasTaken height line v v kept
+  pub taken_none : (v : PassView RowJob) (kept : List RowJob) → kept ≡ [] → HasTakenRows height line v v kept
   taken_none v kept none = record {
     got = [];
     is = ap (λ (l : List (ℕ × RowJob)). pass_view v.shares v.known v.put l) (sym (append_nil v.took));
@@ -73,8 +73,8 @@ module _ (height line : ℕ) where
   }
 
   -- one row more was taken, and is kept
-  pub taken_more : (v w x : PassView RowJob) (kept : List RowJob) (job drawn : RowJob) → HasTaken height line v w kept → Takes w job x
-      → drawn.row ≡ job.row → HasTaken height line v x (kept ++ drawn ∷ [])
+  pub taken_more : (v w x : PassView RowJob) (kept : List RowJob) (job drawn : RowJob) → HasTakenRows height line v w kept → Takes w job x
+      → drawn.row ≡ job.row → HasTakenRows height line v x (kept ++ drawn ∷ [])
   taken_more v w x kept job drawn h t same = record {
     got = h.got ++ (t.place, job) ∷ [];
     is = took_more v w x h.got job h.is t;
@@ -85,14 +85,14 @@ module _ (height line : ℕ) where
         ∙ sym (ap rows_of (items_push h.got t.place job) ∙ rows_push (items_of h.got) job);
   }
 
-  pub taken_number : (n : ℕ) (v w x : PassView RowJob) (kept : List RowJob) (job drawn : RowJob) (h : HasTaken height line v w kept) (t : Takes w job x)
+  pub taken_number : (n : ℕ) (v w x : PassView RowJob) (kept : List RowJob) (job drawn : RowJob) (h : HasTakenRows height line v w kept) (t : Takes w job x)
       (same : drawn.row ≡ job.row) → n ≤ length h.got → n + 1 ≤ length (taken_more v w x kept job drawn h t same).got
   unfolding taken_more
   taken_number n v w x kept job drawn h t same low = (let e = length-append h.got ((t.place, job) ∷ []) in omega (arith, e, low))
 
   -- what is no row of the picture was taken
-  taken_else : (v w x : PassView RowJob) (kept : List RowJob) (job : RowJob) → HasTaken height line v w kept → Takes w job x
-      → (FitsRow height line job → ⊥) → (t : HasTaken height line v x kept) × HasEnded height line v x kept t
+  taken_else : (v w x : PassView RowJob) (kept : List RowJob) (job : RowJob) → HasTakenRows height line v w kept → Takes w job x
+      → (FitsRow height line job → ⊥) → (t : HasTakenRows height line v x kept) × HasEndedTaking height line v x kept t
   taken_else v w x kept job h t none =
       let got = h.got ++ (t.place, job) ∷ [] in
       let unfit : All (FitsRow height line) (items_of got) → ⊥ = λ fit.
@@ -107,9 +107,9 @@ module _ (height line : ℕ) where
         inr (inr unfit),
       )
 
-  pub taken_ends : (v w x : PassView RowJob) (kept : List RowJob) → HasTaken height line v w kept → EndsTaking height line w x
-      → (t : HasTaken height line v x kept) × HasEnded height line v x kept t
+  pub taken_ends : (v w x : PassView RowJob) (kept : List RowJob) → HasTakenRows height line v w kept → EndsTaking height line w x
+      → (t : HasTakenRows height line v x kept) × HasEndedTaking height line v x kept t
   taken_ends v w x kept h (inl none) =
-      subst (λ (u : PassView RowJob). (t : HasTaken height line v u kept) × HasEnded height line v u kept t) (sym none.0)
+      subst (λ (u : PassView RowJob). (t : HasTakenRows height line v u kept) × HasEndedTaking height line v u kept t) (sym none.0)
       (h, inl (subst (λ (u : PassView RowJob). IsAtStep u []) none.0 none.1))
   taken_ends v w x kept h (inr other) = taken_else v w x kept other.0 h other.1 other.2

@@ -20,6 +20,6 @@ abbrev pub splits_of : BagPass → ℕ
 splits_of p = p.splits
 
 -- It is a pass of this bag, with more shares than it may be split.
-pub record IsOf (q : RowBag) (p : BagPass) : Type 0 where
+pub record IsPassOfBag (q : RowBag) (p : BagPass) : Type 0 where
   pub bag : IsInjectorPassOf q.rows p.pass
   pub splits : splits_of p < (view_of p).shares

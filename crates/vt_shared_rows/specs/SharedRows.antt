@@ -19,7 +19,7 @@ use Rattle.vt_shared_rows.specs.declared.bag.RowJob.{RowJob}
 use Rattle.vt_shared_rows.specs.declared.bag.RowBag.{RowBag}
 use Rattle.vt_shared_rows.specs.declared.bag.BagPass.{BagPass}
 use Rattle.vt_shared_rows.specs.declared.sampler.RowSampler.{RowSampler}
-use Rattle.vt_shared_rows.specs.Bags.{view_of, IsOf}
+use Rattle.vt_shared_rows.specs.Bags.{view_of, IsPassOfBag}
 
 -- the numbers of rows
 abbrev pub rows_of : List RowJob → List ℕ
@@ -48,7 +48,7 @@ abbrev pub Took : PassView RowJob → List (ℕ × RowJob) → PassView RowJob �
 Took v got w = w ≡ pass_view v.shares v.known v.put (v.took ++ got)
 
 -- a pass took rows, in the order of their places; where each of them is a row of the picture, they are those that were kept, in that order
-pub record HasTaken (height line : ℕ) (v w : PassView RowJob) (kept : List RowJob) : Type 0 where
+pub record HasTakenRows (height line : ℕ) (v w : PassView RowJob) (kept : List RowJob) : Type 0 where
   pub got : List (ℕ × RowJob)
   pub is : Took v got w
   pub rise : Rise got
@@ -59,8 +59,8 @@ abbrev pub EndsTaking : ℕ → ℕ → PassView RowJob → PassView RowJob → 
 EndsTaking height line v w = ((w ≡ v) × IsAtStep w []) ⊎ ((job : RowJob) × Takes v job w × (FitsRow height line job → ⊥))
 
 -- a pass goes on until nothing is left, or until it took as many rows as the picture has, or what is no row of it
-abbrev pub HasEnded : (height line : ℕ) (v w : PassView RowJob) (kept : List RowJob) → HasTaken height line v w kept → Type 0
-HasEnded height line v w kept taken = IsAtStep w [] ⊎ (height ≤ length taken.got) ⊎ (All (FitsRow height line) (items_of taken.got) → ⊥)
+abbrev pub HasEndedTaking : (height line : ℕ) (v w : PassView RowJob) (kept : List RowJob) → HasTakenRows height line v w kept → Type 0
+HasEndedTaking height line v w kept taken = IsAtStep w [] ⊎ (height ≤ length taken.got) ⊎ (All (FitsRow height line) (items_of taken.got) → ⊥)
 
 -- a row that a sampler of this number keeps: it was drawn by a filter, by what the sampler's pass noted between two views, at a version that it
 -- has held meanwhile
@@ -79,7 +79,7 @@ VersionsRise jobs = AllPairs (λ a b. a.version ≤ b.version) jobs
 pub record MayShare (bag : RowBag) (s : Shape) (path : PathView) (a : RowSampler) : Type 0 where
   pub pass : BagPass
   pub has : a.rows ≡ Some pass
-  pub of : IsOf bag pass
+  pub of : IsPassOfBag bag pass
   pub none : a.kept.elements ≡ []
   pub room : path.height ≤ a.kept.spare
   pub pages : length a.counts.items ≡ pages_of s
@@ -94,9 +94,9 @@ pub record HasShared {P : Type 0} (filter : FilterMeanings P) (bag : RowBag) (s 
   pub had : a.rows ≡ Some before
   pub after : BagPass
   pub has : b.rows ≡ Some after
-  pub of : IsOf bag after
-  pub taken : HasTaken path.height (row_length d path.width) (view_of before) (view_of after) b.kept.elements
-  pub ended : HasEnded path.height (row_length d path.width) (view_of before) (view_of after) b.kept.elements taken
+  pub of : IsPassOfBag bag after
+  pub taken : HasTakenRows path.height (row_length d path.width) (view_of before) (view_of after) b.kept.elements
+  pub ended : HasEndedTaking path.height (row_length d path.width) (view_of before) (view_of after) b.kept.elements taken
   pub drawn : All (IsKeptRow filter s d path picture a.sampler p q) b.kept.elements
   pub rising : VersionsRise b.kept.elements
   pub counted : (n : ℕ) → n < length b.counts.items

@@ -4,7 +4,7 @@ ghost use Rattle.std.specs.Prelude.{◌≡◌, ◌+◌, ◌-◌, ◌/◌, ◌<�
 ghost use Rattle.vt_queue.specs.PassViews.{first_view, joined, Splits, all_shares, split_part};
 ghost use Rattle.vt_queue.specs.Steps.{Puts, Takes, IsAtStep};
 ghost use Rattle.crossbeam_deque.specs.Steals.{MatchSteal};
-ghost use Rattle.vt_shared_rows.specs.Bags.{view_of, splits_of, IsOf};
+ghost use Rattle.vt_shared_rows.specs.Bags.{view_of, splits_of, IsPassOfBag};
 
 use crossbeam_deque::protocol::{Join, Outcome, Protocol, Split};
 use crossbeam_deque::{Injector, InjectorPass, Steal};
@@ -46,9 +46,9 @@ pub struct OneOrder;
 
 impl Protocol<RowJob, PassView<RowJob>> for OneOrder {
     ghost use Rattle.vt_queue.specs.PassViews.{first_view};
-    ghost use Rattle.vt_queue.specs.Rules.{IsKept};
+    ghost use Rattle.vt_queue.specs.Rules.{IsQueueKept};
 
-    ghost holds = { IsKept };
+    ghost holds = { IsQueueKept };
 
     ghost first = { first_view };
 
@@ -121,7 +121,7 @@ fn given_of(splits: u64) -> u64
 impl RowBag {
     /// An empty bag and its one pass.
     pub fn new(alloc: Global) -> Result<(RowBag, BagPass), NoMemory>
-        ensures of { IfOk result (λ made. IsOf made.0 made.1) }
+        ensures of { IfOk result (λ made. IsPassOfBag made.0 made.1) }
         ensures view { IfOk result (λ made. view_of made.1 ≡ first_view) }
         ensures splits { IfOk result (λ made. splits_of made.1 + 1 ≡ all_shares) }
     {
@@ -138,9 +138,9 @@ impl RowBag {
     /// Splits a pass off, for another thread: it has no puts and takes of its own, and knows what this one put and knew. It is
     /// refused only where this pass has no splits left, and then nothing changed.
     pub fn split(&self, _alloc: Global, pass: &mut BagPass) -> Result<BagPass, NoMemory>
-        requires { IsOf self.now pass.old }
-        ensures of { IsOf self.now pass.new }
-        ensures other { IfOk result (λ other. IsOf self.now other) }
+        requires { IsPassOfBag self.now pass.old }
+        ensures of { IsPassOfBag self.now pass.new }
+        ensures other { IfOk result (λ other. IsPassOfBag self.now other) }
         ensures splits { IfOk result (λ other. Splits (view_of pass.old) (view_of pass.new) (view_of other)) }
         ensures refused { OnErr result ((pass.new ≡ pass.old) × (splits_of pass.old ≡ 0)) }
     {
@@ -158,8 +158,8 @@ impl RowBag {
 
     /// Takes a pass in: what it put, took and knew is now this one's.
     pub fn join(&self, into: &mut BagPass, pass: BagPass)
-        requires { IsOf self.now into.old × IsOf self.now pass }
-        ensures of { IsOf self.now into.new }
+        requires { IsPassOfBag self.now into.old × IsPassOfBag self.now pass }
+        ensures of { IsPassOfBag self.now into.new }
         ensures joined { view_of into.new ≡ joined (view_of into.old) (view_of pass) }
         ensures splits { splits_of into.new ≡ splits_of into.old }
     {
@@ -174,8 +174,8 @@ impl RowBag {
         pass: &mut BagPass,
         job: RowJob,
     ) -> Result<(), (RowJob, NoMemory)>
-        requires { IsOf self.now pass.old }
-        ensures of { IsOf self.now pass.new × (splits_of pass.new ≡ splits_of pass.old) }
+        requires { IsPassOfBag self.now pass.old }
+        ensures of { IsPassOfBag self.now pass.new × (splits_of pass.new ≡ splits_of pass.old) }
         ensures puts { OnOk result (Puts (view_of pass.old) job (view_of pass.new)) }
         ensures job { IfErr result (λ refused. refused.0 ≡ job) }
         ensures same { OnErr result (view_of pass.new ≡ view_of pass.old) }
@@ -188,8 +188,8 @@ impl RowBag {
 
     // Takes the first row, or tells that there was none, or that another thread was in the way.
     fn steal<Rt: Wait>(&self, rt: &Rt, pass: &mut BagPass) -> Steal<RowJob>
-        requires { IsOf self.now pass.old }
-        ensures of { IsOf self.now pass.new × (splits_of pass.new ≡ splits_of pass.old) }
+        requires { IsPassOfBag self.now pass.old }
+        ensures of { IsPassOfBag self.now pass.new × (splits_of pass.new ≡ splits_of pass.old) }
         ensures steals { MatchSteal result ((view_of pass.new ≡ view_of pass.old) × IsAtStep (view_of pass.old) [])
             (view_of pass.new ≡ view_of pass.old) (λ job. Takes (view_of pass.old) job (view_of pass.new)) }
     {
@@ -198,8 +198,8 @@ impl RowBag {
 
     /// Takes the first row. It answers `None` only if there was a step of the call at which the bag had none. It may wait.
     pub fn take<Rt: Wait>(&self, rt: &Rt, pass: &mut BagPass) -> Option<RowJob>
-        requires { IsOf self.now pass.old }
-        ensures of { IsOf self.now pass.new × (splits_of pass.new ≡ splits_of pass.old) }
+        requires { IsPassOfBag self.now pass.old }
+        ensures of { IsPassOfBag self.now pass.new × (splits_of pass.new ≡ splits_of pass.old) }
         ensures takes { IfSome result (λ job. Takes (view_of pass.old) job (view_of pass.new)) }
         ensures empty { IfNone result ((view_of pass.new ≡ view_of pass.old) × IsAtStep (view_of pass.old) []) }
     {
@@ -215,8 +215,8 @@ impl RowBag {
 
     /// Waits until the bag has no row.
     pub fn wait_empty<Rt: Wait>(&self, rt: &Rt, pass: &mut BagPass)
-        requires { IsOf self.now pass.old }
-        ensures of { IsOf self.now pass.new }
+        requires { IsPassOfBag self.now pass.old }
+        ensures of { IsPassOfBag self.now pass.new }
         ensures same { view_of pass.new ≡ view_of pass.old }
         ensures empty { IsAtStep (view_of pass.new) [] }
     {
@@ -231,8 +231,8 @@ impl RowBag {
 
     // Whether the bag had no row at a step of the call.
     fn is_empty(&self, pass: &mut BagPass) -> bool
-        requires { IsOf self.now pass.old }
-        ensures of { IsOf self.now pass.new }
+        requires { IsPassOfBag self.now pass.old }
+        ensures of { IsPassOfBag self.now pass.new }
         ensures same { view_of pass.new ≡ view_of pass.old }
         ensures empty { IsTrue result → IsAtStep (view_of pass.old) [] }
     {

@@ -8,11 +8,11 @@ ghost use Rattle.vt_draw.specs.Shots.{shot_row, wants_in_rows};
 ghost use Rattle.vt_sampler.specs.Evidence.{AreShown, AreRaised};
 ghost use Rattle.vt_grace.specs.PassViews.{NoneAbove};
 ghost use Rattle.vt_grace.specs.Tokens.{IsPassOf};
-ghost use Rattle.vt_sampler.specs.LookupNotes.{Fits, IsNotedIn, HasHeldMore};
+ghost use Rattle.vt_sampler.specs.LookupNotes.{FitsShape, IsNotedIn, HasHeldMore};
 ghost use Rattle.vt_sampler.specs.Samplers.{row_length};
 ghost use Rattle.vt_queue.specs.Steps.{Takes};
-ghost use Rattle.vt_shared_rows.specs.Bags.{view_of, IsOf};
-ghost use Rattle.vt_shared_rows.specs.SharedRows.{FitsRow, EndsTaking, HasTaken, HasEnded, IsKeptRow, VersionsRise, rows_of, versions_of};
+ghost use Rattle.vt_shared_rows.specs.Bags.{view_of, IsPassOfBag};
+ghost use Rattle.vt_shared_rows.specs.SharedRows.{FitsRow, EndsTaking, HasTakenRows, HasEndedTaking, IsKeptRow, VersionsRise, rows_of, versions_of};
 
 use crate::bag::{BagPass, RowBag, RowJob};
 use std::sync::Wait;
@@ -37,9 +37,9 @@ fn fits(job: &RowJob, shot: &Shot) -> bool
 // Takes the next row of the shot's picture, or tells that there was none. A sampler cannot know, while it draws, what was put: so it ends
 // where what it took is no row of the picture.
 fn take_row<Rt: Wait>(rt: &Rt, bag: &RowBag, own: &mut BagPass, shot: &Shot) -> Option<RowJob>
-    requires of { IsOf bag.now own.old }
+    requires of { IsPassOfBag bag.now own.old }
     requires depth { IsDepth shot.now.depth }
-    ensures of { IsOf bag.now own.new }
+    ensures of { IsPassOfBag bag.now own.new }
     ensures some { IfSome result (λ job. Takes (view_of own.old) job (view_of own.new)
         × FitsRow shot.now.path.now.height (row_length shot.now.depth shot.now.path.now.width) job) }
     ensures sides { IfSome result (λ job. ArePictureSides shot.now.path.now.width shot.now.path.now.height) }
@@ -63,7 +63,7 @@ fn draw_row_of<P: Filter, G: Gate>(
     counts: &mut [u32],
 ) -> (Pass, RowJob)
     requires of { IsPassOf words.now pass }
-    requires fits { Fits shot.now.geometry.now words.now.sizes }
+    requires fits { FitsShape shot.now.geometry.now words.now.sizes }
     requires rooted { pass.view.rooted ≡ true }
     requires own { pass.view.sampler ≡ sampler }
     requires depth { IsDepth shot.now.depth }
@@ -114,9 +114,9 @@ pub(crate) fn draw_rows<Rt: Wait, P: Filter, G: Gate>(
     kept: &mut Items<RowJob>,
     counts: &mut [u32],
 ) -> Pass
-    requires bag { IsOf bag.now own.old }
+    requires bag { IsPassOfBag bag.now own.old }
     requires of { IsPassOf words.now pass }
-    requires fits { Fits shot.now.geometry.now words.now.sizes }
+    requires fits { FitsShape shot.now.geometry.now words.now.sizes }
     requires rooted { pass.view.rooted ≡ true }
     requires own { pass.view.sampler ≡ sampler }
     requires depth { IsDepth shot.now.depth }
@@ -125,11 +125,11 @@ pub(crate) fn draw_rows<Rt: Wait, P: Filter, G: Gate>(
     requires spare { shot.now.path.now.height ≤ kept.old.spare }
     requires pages { length counts.old ≡ pages_of shot.now.geometry.now }
     requires zero { (p : ℕ) → p < length counts.old → slice_index counts.old p ≡ 0 }
-    ensures bag { IsOf bag.now own.new }
+    ensures bag { IsPassOfBag bag.now own.new }
     ensures of { IsPassOf words.now result }
     ensures holds { HasHeldMore pass.view result.view (reverse (versions_of kept.new.elements)) }
-    ensures taken { (taken : HasTaken shot.now.path.now.height (row_length shot.now.depth shot.now.path.now.width) (view_of own.old)
-        (view_of own.new) kept.new.elements) × HasEnded shot.now.path.now.height (row_length shot.now.depth shot.now.path.now.width)
+    ensures taken { (taken : HasTakenRows shot.now.path.now.height (row_length shot.now.depth shot.now.path.now.width) (view_of own.old)
+        (view_of own.new) kept.new.elements) × HasEndedTaking shot.now.path.now.height (row_length shot.now.depth shot.now.path.now.width)
         (view_of own.old) (view_of own.new) kept.new.elements taken }
     ensures drawn { All (IsKeptRow P.Filter shot.now.geometry.now shot.now.depth shot.now.path.now shot.now.picture sampler
         pass.view result.view) kept.new.elements }

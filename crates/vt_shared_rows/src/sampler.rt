@@ -4,7 +4,7 @@ ghost use Rattle.std.specs.Prelude.{◌≡◌, ℕ, ◌<◌, true, None, [], len
 ghost use Rattle.vt_definitions.specs.Depths.{IsDepth};
 ghost use Rattle.vt_pages.specs.Pages.{pages_of};
 ghost use Rattle.vt_grace.specs.Tokens.{IsPassOf};
-ghost use Rattle.vt_sampler.specs.LookupNotes.{Fits, HasHeldMore};
+ghost use Rattle.vt_sampler.specs.LookupNotes.{FitsShape, HasHeldMore};
 ghost use Rattle.vt_shared_rows.specs.SharedRows.{MayShare, HasShared, versions_of};
 
 use crate::bag::{BagPass, RowBag, RowJob};
@@ -70,7 +70,7 @@ impl RowSampler {
     ) -> Pass
         requires may { MayShare bag.now shot.now.geometry.now shot.now.path.now self.old }
         requires of { IsPassOf words.now pass }
-        requires fits { Fits shot.now.geometry.now words.now.sizes }
+        requires fits { FitsShape shot.now.geometry.now words.now.sizes }
         requires rooted { pass.view.rooted ≡ true }
         requires own { pass.view.sampler ≡ self.old.sampler }
         requires depth { IsDepth shot.now.depth }

@@ -36,11 +36,11 @@ use Rattle.vt_word_workers.proofs.Returned.{holds_of, HasOwnPass, return_of, Was
 use Rattle.vt_shared_rows.specs.declared.bag.RowJob.{RowJob}
 use Rattle.vt_shared_rows.specs.declared.bag.RowBag.{RowBag}
 use Rattle.vt_shared_rows.specs.declared.sampler.RowSampler.{RowSampler}
-use Rattle.vt_shared_rows.specs.Bags.{view_of, IsOf}
-use Rattle.vt_shared_rows.specs.SharedRows.{rows_of, HasTaken, IsKeptRow}
-use Rattle.vt_steal.specs.declared.row_kit.RowKit.{RowKit}
+use Rattle.vt_shared_rows.specs.Bags.{view_of, IsPassOfBag}
+use Rattle.vt_shared_rows.specs.SharedRows.{rows_of, HasTakenRows, IsKeptRow}
+use Rattle.vt_steal.specs.declared.row_pool.RowPool.{RowPool}
 use Rattle.vt_steal.specs.RowTasks.{RowTask, HasDrawnShared}
-use Rattle.vt_steal.specs.RowKits.{samplers_of, IsRowSampler, AreRowSamplers, AreInPlace, line_of_kit, HasNewRows}
+use Rattle.vt_steal.specs.RowPools.{samplers_of, IsRowSampler, AreRowSamplers, AreInPlace, line_of_pool, HasNewRows}
 use Rattle.vt_steal.specs.RowEnds.{kept_rows, MayEndRows, IsRowOfPass, RiseBySampler, IsEachRowOnce}
 use Rattle.vt_steal.specs.Placing.{ArePlaced, counted_by, all_rows_joined, ended_task, MayTakeIn}
 use Rattle.vt_steal.proofs.Lists.{made_of, made_at}
@@ -84,7 +84,7 @@ all_wanted : (wants : Shape → RowView → ℕ → ℕ → ℕ) (s : Shape) (pa
 unfolding wants_in_rows
 all_wanted wants s path i p xs ys moved = sum_by-IsPermutation (λ (y : ℕ). wants s (shot_row s path i y) path.width p) xs ys moved
 
-module _ {P : Type 0} (filter : FilterMeanings P) (words : WordsValue) (bag : RowBag) (k : RowKit) (scene : Scene) (picture : ℕ)
+module _ {P : Type 0} (filter : FilterMeanings P) (words : WordsValue) (bag : RowBag) (k : RowPool) (scene : Scene) (picture : ℕ)
     (start : WriterView) (t : StreamerView) (e f : List RowTask) (h : MayEndRows filter words bag k scene picture start t e f) where
   -- what a sampler was, that it had new passes then, and that it has drawn
   record HasWorked (m : ℕ) (task : RowTask) : Type 0 where
@@ -103,42 +103,42 @@ module _ {P : Type 0} (filter : FilterMeanings P) (words : WordsValue) (bag : Ro
       record {
         before = get_or e m task;
         there = there;
-        was = h.shared.kit.samplers_are.each m (get_or e m task).sampler sampler;
+        was = h.shared.pool.samplers_are.each m (get_or e m task).sampler sampler;
         new = h.passes m (get_or e m task) there;
         rows = h.shared.shared.each m (get_or e m task).sampler sampler;
         drawn = subst (λ (x : RowTask). HasDrawnShared filter words bag scene picture (get_or e m task) x) (get_or_from_slice_get f m task task is)
             (h.drawn m task low);
       }
 
-  same_line : row_length scene.depth scene.path.width ≡ line_of_kit k
+  same_line : row_length scene.depth scene.path.width ≡ line_of_pool k
   same_line i = row_length (h.depth i) (h.width i)
 
-  has_kept : (m : ℕ) (task : RowTask) (d : HasWorked m task) → HasKept bag k.height (line_of_kit k) d.before.sampler task.sampler
+  has_kept : (m : ℕ) (task : RowTask) (d : HasWorked m task) → HasKept bag k.height (line_of_pool k) d.before.sampler task.sampler
   has_kept m task d = let x = d.drawn.shared in record {
     new = d.rows;
     before = x.before;
     had = x.had;
     after = x.after;
     has = x.has;
-    taken = subst (λ (z : ℕ × ℕ). HasTaken z.0 z.1 (view_of x.before) (view_of x.after) task.sampler.kept.elements)
+    taken = subst (λ (z : ℕ × ℕ). HasTakenRows z.0 z.1 (view_of x.before) (view_of x.after) task.sampler.kept.elements)
         (λ i. (h.height i, same_line i)) x.taken;
   }
 
   each_kept : (n : ℕ) (b : RowSampler) → slice_get (samplers_of f) n ≡ Some b
-      → (a : RowSampler) × (slice_get (samplers_of e) n ≡ Some a) × HasKept bag k.height (line_of_kit k) a b
+      → (a : RowSampler) × (slice_get (samplers_of e) n ≡ Some a) × HasKept bag k.height (line_of_pool k) a b
   each_kept n b is =
       let x = made_of (λ (y : RowTask). y.sampler) f n b is in
       let d = worked n x.0 x.1 in (
         d.before.sampler,
         made_at (λ (y : RowTask). y.sampler) e n d.before d.there,
-        subst (HasKept bag k.height (line_of_kit k) d.before.sampler) x.2 (has_kept n x.0 d),
+        subst (HasKept bag k.height (line_of_pool k) d.before.sampler) x.2 (has_kept n x.0 d),
       )
 
   same_number : length (samplers_of f) ≡ length (samplers_of e)
   same_number = length-map f (λ (y : RowTask). y.sampler) ∙ h.number ∙ sym (length-map e (λ (y : RowTask). y.sampler))
 
   number_is : length f ≡ k.count
-  number_is = sym (length-map f (λ (y : RowTask). y.sampler)) ∙ same_number ∙ h.shared.kit.samplers_are.number
+  number_is = sym (length-map f (λ (y : RowTask). y.sampler)) ∙ same_number ∙ h.shared.pool.samplers_are.number
 
   -- what a sampler has left may be taken in
   pub may_take_in : All (MayTakeIn bag (length k.drawn.elements)) f
@@ -147,8 +147,8 @@ module _ {P : Type 0} (filter : FilterMeanings P) (words : WordsValue) (bag : Ro
       let d = worked m its (slice_get-get_or f m task inside) in
       let x = d.drawn.shared in
       record {
-        rows = subst (λ (o : Option _). IfSome o (IsOf bag)) (sym x.has) x.of;
-        inside = λ i job low. let fits = (x.drawn i job low).fits.inside in let n = h.shared.kit.number in let y = h.height in omega (arith, fits, n, y);
+        rows = subst (λ (o : Option _). IfSome o (IsPassOfBag bag)) (sym x.has) x.of;
+        inside = λ i job low. let fits = (x.drawn i job low).fits.inside in let n = h.shared.pool.number in let y = h.height in omega (arith, fits, n, y);
       }
 
   -- the pass that a sampler had was new
@@ -171,7 +171,7 @@ module _ {P : Type 0} (filter : FilterMeanings P) (words : WordsValue) (bag : Ro
       subst (λ (x : RowTask). IfSome x.pass (IsPassOf words)) (sym (get_or-map ended_task f m task task low))
       (subst (λ (o : Option PassValue). IfSome o (IsPassOf words)) (sym d.drawn.has) d.drawn.of)
 
-  -- without their passes and their rows the samplers are those of the kit
+  -- without their passes and their rows the samplers are those of the pool
   pub samplers_stay : AreRowSamplers k.geometry k.count (samplers_of (without_passes (map ended_task f)))
   samplers_stay = record {
     number = length-map (without_passes (map ended_task f)) (λ (y : RowTask). y.sampler) ∙ length-map (map ended_task f) without_pass
@@ -200,11 +200,11 @@ module _ {P : Type 0} (filter : FilterMeanings P) (words : WordsValue) (bag : Ro
   -- the passes of the bag were made one
   module _ (empty : IsAtStep (all_rows_joined (view_of k.rows) (samplers_of f)) []) where
     once : IsPermutation (range_with_len 0 k.height) (rows_of (kept_rows (samplers_of f)))
-    once = kept_once bag k.height (line_of_kit k) (view_of k.rows) (samplers_of e) (samplers_of f) same_number each_kept h.shared.shared.whole
+    once = kept_once bag k.height (line_of_pool k) (view_of k.rows) (samplers_of e) (samplers_of f) same_number each_kept h.shared.shared.whole
         h.shared.shared.puts h.shared.shared.no_takes empty
 
     in_turn : (n : ℕ) (task : RowTask) → slice_get f n ≡ Some task → AllPairs (λ (a b : RowJob). a.row < b.row) task.sampler.kept.elements
-    in_turn n task is = kept_in_turn bag k.height (line_of_kit k) (view_of k.rows) (samplers_of e) (samplers_of f) same_number each_kept
+    in_turn n task is = kept_in_turn bag k.height (line_of_pool k) (view_of k.rows) (samplers_of e) (samplers_of f) same_number each_kept
         h.shared.shared.whole h.shared.shared.puts h.shared.shared.no_takes empty n task.sampler (made_at (λ (y : RowTask). y.sampler) f n task is)
 
     pub each_once : IsEachRowOnce k.height f
@@ -222,7 +222,7 @@ module _ {P : Type 0} (filter : FilterMeanings P) (words : WordsValue) (bag : Ro
     -- and it is below the counts' bound
     pub counts_low : WantsFew filter.wants → (p : ℕ) → p < pages_of k.geometry → counted_by f p < 2 ^ 32
     counts_low most p inside =
-        let sides = subst (λ (x : ℕ × ℕ). ArePictureSides x.0 x.1) (λ i. (sym h.width i, sym h.height i)) h.shared.kit.sides in
+        let sides = subst (λ (x : ℕ × ℕ). ArePictureSides x.0 x.1) (λ i. (sym h.width i, sym h.height i)) h.shared.pool.sides in
         let few = picture_few filter.wants most scene.shape scene.path picture p sides in
         let c = counted p inside in
         omega (arith, c, few)
@@ -238,12 +238,12 @@ module _ {P : Type 0} (filter : FilterMeanings P) (words : WordsValue) (bag : Ro
         keeps : Contains task.sampler.kept.elements job
 
       new_number : length new ≡ k.height
-      new_number = placed.number ∙ h.shared.kit.number
+      new_number = placed.number ∙ h.shared.pool.number
 
       has_row : (y : ℕ) (job : RowJob) → slice_get new y ≡ Some job → HasRow y job
       has_row y job is =
           let low : y < k.height = (let w = slice_get_within new y job is in let n = new_number in omega (arith, w, n)) in
-          let own = placed_own k.height (kept_rows (samplers_of f)) k.drawn.elements new h.shared.kit.number once placed y job low in
+          let own = placed_own k.height (kept_rows (samplers_of f)) k.drawn.elements new h.shared.pool.number once placed y job low in
           let here : get_or new y job ≡ job = get_or_from_slice_get new y job job is in
           let by = kept_by (samplers_of f) job (subst (Contains (kept_rows (samplers_of f))) here own.0) in
           let x = made_of (λ (z : RowTask). z.sampler) f by.0 by.1 by.2 in
@@ -267,7 +267,7 @@ module _ {P : Type 0} (filter : FilterMeanings P) (words : WordsValue) (bag : Ro
         by_sampler : job.sampler ≡ r.m
         by_sampler = was_kept.by ∙ by_one.was.number_is
 
-        row_full : length job.samples.elements ≡ line_of_kit k
+        row_full : length job.samples.elements ≡ line_of_pool k
         row_full = was_kept.fits.full ∙ same_line
 
         was_back : WasReturned after by_one.drawn.pass.view
@@ -333,7 +333,7 @@ module _ {P : Type 0} (filter : FilterMeanings P) (words : WordsValue) (bag : Ro
           (shot_row k.geometry scene.path picture y) scene.path.width job.samples.elements
       rows_noted y job is = row_noted y job (has_row y job is)
 
-      pub in_place : AreInPlace k.height (line_of_kit k) new
+      pub in_place : AreInPlace k.height (line_of_pool k) new
       in_place = record {
         number = new_number;
         each = λ y job is. let r = has_row y job is in (r.row, row_full y job r);
@@ -376,11 +376,11 @@ module _ {P : Type 0} (filter : FilterMeanings P) (words : WordsValue) (bag : Ro
           ]
 
 -- each sampler counts the pages of the texture
-pub lengths_ended : {P : Type 0} (filter : FilterMeanings P) (words : WordsValue) (bag : RowBag) (k : RowKit) (scene : Scene) (picture : ℕ)
+pub lengths_ended : {P : Type 0} (filter : FilterMeanings P) (words : WordsValue) (bag : RowBag) (k : RowPool) (scene : Scene) (picture : ℕ)
     (start : WriterView) (t : StreamerView) (e f : List RowTask) → MayEndRows filter words bag k scene picture start t e f
     → All (λ (task : RowTask). length task.sampler.counts.items ≡ length k.counts) (map ended_task f)
 lengths_ended filter words bag k scene picture start t e f h m task inside =
     let low : m < length f = (let n = length-map f ended_task in omega (arith, n, inside)) in
     let d = worked filter words bag k scene picture start t e f h m (get_or f m task) (slice_get-get_or f m task low) in
     ap (λ (x : RowTask). length x.sampler.counts.items) (get_or-map ended_task f m task task low)
-    ∙ d.drawn.shared.pages ∙ d.was.pages ∙ sym h.shared.kit.counts
+    ∙ d.drawn.shared.pages ∙ d.was.pages ∙ sym h.shared.pool.counts

@@ -17,11 +17,11 @@ use Rattle.vt_shared_rows.specs.declared.bag.RowJob.{RowJob}
 use Rattle.vt_shared_rows.specs.declared.bag.RowBag.{RowBag}
 use Rattle.vt_shared_rows.specs.declared.bag.BagPass.{BagPass}
 use Rattle.vt_shared_rows.specs.declared.sampler.RowSampler.{RowSampler}
-use Rattle.vt_shared_rows.specs.Bags.{view_of, IsOf}
+use Rattle.vt_shared_rows.specs.Bags.{view_of, IsPassOfBag}
 use Rattle.vt_shared_rows.specs.SharedRows.{rows_of, FitsRow, AreRowsPut}
 use Rattle.vt_steal.specs.RowTasks.{RowTask}
-use Rattle.vt_steal.specs.declared.row_kit.RowKit.{RowKit}
-use Rattle.vt_steal.specs.RowKits.{samplers_of, AreRowSamplers, AreInPlace, line_of_kit, IsIdleRows, shares_if, bag_shares, HasNewRows, AreShared, IsSharedKit, IsEquipped, HasEquipment, AreEquipped}
+use Rattle.vt_steal.specs.declared.row_pool.RowPool.{RowPool}
+use Rattle.vt_steal.specs.RowPools.{samplers_of, AreRowSamplers, AreInPlace, line_of_pool, IsIdleRows, shares_if, bag_shares, HasNewRows, AreShared, IsSharedPool, IsEquipped, HasEquipment, AreEquipped}
 use Rattle.vt_steal.proofs.Lists.{made_of, made_at}
 use Rattle.vt_steal.proofs.Making.{samplers_push}
 
@@ -154,7 +154,7 @@ module _ (bag : RowBag) (height : ℕ) where
           record { number_is = x.3 ∙ was.number_is; pages = x.4 ∙ was.pages; none = x.5 ∙ was.none };
     }
 
-    pub are_shared : IsOf bag left → v.shares ≡ all_shares → AreRowsPut height line v.put → v.took ≡ [] → AreShared bag height line left (samplers_of after)
+    pub are_shared : IsPassOfBag bag left → v.shares ≡ all_shares → AreRowsPut height line v.put → v.took ≡ [] → AreShared bag height line left (samplers_of after)
     are_shared of whole put none = record {
       of = of;
       whole = (
@@ -175,28 +175,28 @@ pub equipped_same : (bag : RowBag) (height n : ℕ) (v w : PassView RowJob) (bef
     → AreEquipped bag height n v w before after → AreEquipped bag height n v w before tasks
 equipped_same bag height n v w before after tasks same h = subst (AreEquipped bag height n v w before) same h
 
--- all rows of an idle kit were put into a bag, and its samplers equipped
-pub kit_shared : (bag : RowBag) (k : RowKit) (tasks : ListView RowTask) (drawn : ListView RowJob) (lines : ListView RowLine) (rows : BagPass)
+-- all rows of an idle pool were put into a bag, and its samplers equipped
+pub pool_shared : (bag : RowBag) (k : RowPool) (tasks : ListView RowTask) (drawn : ListView RowJob) (lines : ListView RowLine) (rows : BagPass)
     (v : PassView RowJob) (before : List RowTask) → IsIdleRows k → before ≡ k.tasks.elements
     → AreEquipped bag k.height (length before) v (view_of rows) before tasks.elements
-    → v ≡ pass_view all_shares [] (placed 0 k.drawn.elements) [] → IsOf bag rows → length drawn.elements ≡ k.height
+    → v ≡ pass_view all_shares [] (placed 0 k.drawn.elements) [] → IsPassOfBag bag rows → length drawn.elements ≡ k.height
     → lines.elements ≡ [] → k.height ≤ lines.spare
-    → IsSharedKit bag (record k { tasks = tasks; drawn = drawn; lines = lines; rows = rows }) (samplers_of tasks.elements)
-kit_shared bag k tasks drawn lines rows v before idle same equipped put of number none room = record {
-  kit = record {
-    some = idle.kit.some;
-    few = idle.kit.few;
-    depth = idle.kit.depth;
-    sides = idle.kit.sides;
-    samplers_are = samplers_equipped bag k.height k.geometry k.count (line_of_kit k) rows v before tasks.elements equipped
-        (subst (λ (l : List RowTask). AreRowSamplers k.geometry k.count (samplers_of l)) (sym same) idle.kit.samplers_are);
-    counts = idle.kit.counts;
+    → IsSharedPool bag (record k { tasks = tasks; drawn = drawn; lines = lines; rows = rows }) (samplers_of tasks.elements)
+pool_shared bag k tasks drawn lines rows v before idle same equipped put of number none room = record {
+  pool = record {
+    some = idle.pool.some;
+    few = idle.pool.few;
+    depth = idle.pool.depth;
+    sides = idle.pool.sides;
+    samplers_are = samplers_equipped bag k.height k.geometry k.count (line_of_pool k) rows v before tasks.elements equipped
+        (subst (λ (l : List RowTask). AreRowSamplers k.geometry k.count (samplers_of l)) (sym same) idle.pool.samplers_are);
+    counts = idle.pool.counts;
     number = number;
   };
-  shared = are_shared bag k.height k.geometry k.count (line_of_kit k) rows v before tasks.elements equipped of
+  shared = are_shared bag k.height k.geometry k.count (line_of_pool k) rows v before tasks.elements equipped of
       (ap (λ (u : PassView RowJob). u.shares) put)
-      (subst (AreRowsPut k.height (line_of_kit k)) (sym (ap (λ (u : PassView RowJob). u.put) put))
-      (rows_put k.height (line_of_kit k) k.drawn.elements idle.rows))
+      (subst (AreRowsPut k.height (line_of_pool k)) (sym (ap (λ (u : PassView RowJob). u.put) put))
+      (rows_put k.height (line_of_pool k) k.drawn.elements idle.rows))
       (ap (λ (u : PassView RowJob). u.took) put);
   lines = record { no_lines = none; room = room };
 }

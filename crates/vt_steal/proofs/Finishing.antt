@@ -27,8 +27,8 @@ use Rattle.vt_machine.specs.declared.crew.PassReport.{PassReport}
 use Rattle.vt_machine.specs.Outcomes.{IsOutcome}
 use Rattle.vt_machine.specs.RowOrders.{AreRowsInOrder}
 use Rattle.vt_machine.specs.Requests.{AreReadFor}
-use Rattle.vt_machine.specs.Machines.{files_of, told_by}
-use Rattle.vt_machine.specs.Passes.{IsPictured, Ends}
+use Rattle.vt_machine.specs.Machines.{files_of, known_bytes}
+use Rattle.vt_machine.specs.Passes.{IsPictured, EndsPassRun}
 use Rattle.vt_word_workers.specs.BatchRounds.{result_events}
 use Rattle.vt_word_workers.specs.Made.{HasStreamed, results_contents}
 use Rattle.vt_word_workers.specs.Noted.{IsNotedBy, AreNotedRows}
@@ -38,13 +38,13 @@ use Rattle.vt_word_workers.proofs.Replayed.{picture_replayed}
 use Rattle.vt_word_workers.specs.declared.workers.WordStreamer.{WordStreamer}
 use Rattle.vt_word_workers.proofs.Contents.{results_stored}
 use Rattle.vt_word_workers.proofs.Returned.{journal_stays, contents_stay}
-use Rattle.vt_word_workers.specs.StreamKits.{StreamKitView, stream_before}
+use Rattle.vt_word_workers.specs.LoaderPools.{LoaderPoolView, stream_before}
 use Rattle.vt_shared_rows.specs.declared.bag.RowJob.{RowJob}
 use Rattle.vt_shared_rows.specs.declared.bag.RowBag.{RowBag}
-use Rattle.vt_steal.specs.declared.row_kit.RowKit.{RowKit}
+use Rattle.vt_steal.specs.declared.row_pool.RowPool.{RowPool}
 use Rattle.vt_steal.specs.RowTasks.{RowTask}
 use Rattle.vt_steal.specs.RowEnds.{line_of, bytes_of, WasShared}
-use Rattle.vt_steal.specs.SharingMachines.{sharing_of, state_by, drawn_by, Agree, IsIdleSharing, Begun, MayFinish, HasFinished}
+use Rattle.vt_steal.specs.StealMachines.{steal_drawing, state_by, drawn_by, Agree, IsIdleSteal, Begun, MayFinish, HasTakenWorkersBack}
 use Rattle.vt_steal.proofs.Lists.{made_of}
 use Rattle.vt_grace.specs.declared.views.WriterView.{WriterView}
 use Rattle.vt_grace.specs.WriterViews.{version_of}
@@ -52,9 +52,9 @@ use Rattle.vt_word_workers.specs.HeldPasses.{IsHeldRow, AreNewRows}
 use Rattle.vt_steal.proofs.RowsEnding.{bytes_at}
 
 module _ {F P : Type 0} (g : FileMeanings F) (filter : FilterMeanings P) (law : IsUnder filter.shown filter.under) (words : WordsValue) (q : Queues)
-    (bag : RowBag) (k l : StreamKitView F) (r s : RowKit) (job : Job) (report : PassReport) (c : List (QueuedView F)) (f : List RowTask)
+    (bag : RowBag) (k l : LoaderPoolView F) (r s : RowPool) (job : Job) (report : PassReport) (c : List (QueuedView F)) (f : List RowTask)
     (t d : WordStreamer) (b : Begun F) (may : MayFinish g filter words q bag k r job c f t b)
-    (done : HasFinished g filter words k l r s job report f t d.streamer b) where
+    (done : HasTakenWorkersBack g filter words k l r s job report f t d.streamer b) where
   abbrev w : StreamerView
   w = d.streamer
 
@@ -65,13 +65,13 @@ module _ {F P : Type 0} (g : FileMeanings F) (filter : FilterMeanings P) (law : 
   jobs = s.drawn.elements
 
   same_shape : l.shape ≡ k.shape
-  same_shape = ap (λ (x : StreamKitView F). x.shape) done.stream.rest
+  same_shape = ap (λ (x : LoaderPoolView F). x.shape) done.stream.rest
 
   same_depth : l.depth ≡ k.depth
-  same_depth = ap (λ (x : StreamKitView F). x.depth) done.stream.rest
+  same_depth = ap (λ (x : LoaderPoolView F). x.depth) done.stream.rest
 
   same_samplers : l.crew.samplers ≡ k.crew.samplers
-  same_samplers = ap (λ (x : StreamKitView F). x.crew.samplers) done.stream.rest
+  same_samplers = ap (λ (x : LoaderPoolView F). x.crew.samplers) done.stream.rest
 
   journal_same : w.writer.journal ≡ t.streamer.writer.journal
   journal_same = ap (λ (x : StreamerView). x.writer.journal) done.rows.back ∙ journal_stays t.streamer.writer f
@@ -81,9 +81,9 @@ module _ {F P : Type 0} (g : FileMeanings F) (filter : FilterMeanings P) (law : 
 
   agree : Agree l s
   agree = record {
-    shape = ap (λ (x : RowKit). x.geometry) done.rows.rest ∙ may.agree.shape ∙ sym same_shape;
-    depth = ap (λ (x : RowKit). x.depth) done.rows.rest ∙ may.agree.depth ∙ sym same_depth;
-    count = ap (λ (x : RowKit). x.count) done.rows.rest ∙ may.agree.count ∙ sym same_samplers;
+    shape = ap (λ (x : RowPool). x.geometry) done.rows.rest ∙ may.agree.shape ∙ sym same_shape;
+    depth = ap (λ (x : RowPool). x.depth) done.rows.rest ∙ may.agree.depth ∙ sym same_depth;
+    count = ap (λ (x : RowPool). x.count) done.rows.rest ∙ may.agree.count ∙ sym same_samplers;
   }
 
   -- the changes of the results were published
@@ -98,20 +98,20 @@ module _ {F P : Type 0} (g : FileMeanings F) (filter : FilterMeanings P) (law : 
   journal_is = journal_same ∙ streamed.journal ∙ ap (λ (es : List Event). start ++ changes_of es) (sym events_are)
 
   -- each page was mapped with the words of its tile
-  stored_after : AreStored l.shape l.depth (told_by g l.stores) w.writer.journal w.writer.contents
+  stored_after : AreStored l.shape l.depth (known_bytes g l.stores) w.writer.journal w.writer.contents
   stored_after =
       let v = b.streamer.streamer.writer in
       let results = t.report.results.elements in
-      let old : AreStored k.shape k.depth (told_by g l.stores) v.journal v.contents =
-      subst (λ (o : Option (List ℕ)). AreStored k.shape k.depth o v.journal v.contents) (sym done.stream.told) may.fit.stored in
-      let new = results_stored k.shape k.depth (told_by g l.stores) job.batch results done.stream.entries done.stream.good in
-      subst (λ (z : Shape × ℕ × List Change × List (List ℕ)). AreStored z.0 z.1 (told_by g l.stores) z.2 z.3)
+      let old : AreStored k.shape k.depth (known_bytes g l.stores) v.journal v.contents =
+      subst (λ (o : Option (List ℕ)). AreStored k.shape k.depth o v.journal v.contents) (sym done.stream.known) may.fit.stored in
+      let new = results_stored k.shape k.depth (known_bytes g l.stores) job.batch results done.stream.entries done.stream.good in
+      subst (λ (z : Shape × ℕ × List Change × List (List ℕ)). AreStored z.0 z.1 (known_bytes g l.stores) z.2 z.3)
       (λ i. (sym same_shape i, sym same_depth i, sym (journal_same ∙ streamed.journal) i, sym (contents_same ∙ streamed.contents) i))
-      (stored_grow k.shape k.depth (told_by g l.stores) v.journal (changes_of (result_events job.batch results)) v.contents
+      (stored_grow k.shape k.depth (known_bytes g l.stores) v.journal (changes_of (result_events job.batch results)) v.contents
       (results_contents k.shape job.batch results) may.fit.of.sound.contents old new)
 
   -- the machine can go on
-  pub goes_on : IsIdleSharing g words w l s
+  pub goes_on : IsIdleSteal g words w l s
   goes_on = record {
     fit = record {
       of = done.rows.of;
@@ -119,7 +119,7 @@ module _ {F P : Type 0} (g : FileMeanings F) (filter : FilterMeanings P) (law : 
       samplers = may.fit.samplers ∙ sym same_samplers;
       stored = stored_after;
     };
-    kit = done.stream.kit;
+    pool = done.stream.pool;
     all_in = done.rows.all_in;
     rows = done.rows.idle;
     agree = agree;
@@ -131,7 +131,7 @@ module _ {F P : Type 0} (g : FileMeanings F) (filter : FilterMeanings P) (law : 
   line_there y line is = made_of line_of s.drawn.elements y line (sym (ap (λ (x : List RowLine). slice_get x y) done.rows.lines_are) ∙ is)
 
   height_is : s.height ≡ r.height
-  height_is = ap (λ (x : RowKit). x.height) done.rows.rest
+  height_is = ap (λ (x : RowPool). x.height) done.rows.rest
 
   in_order : AreRowsInOrder false k.crew.samplers r.height (length start) (length w.writer.journal) report.rows.elements
   unfolding jobs
@@ -144,7 +144,7 @@ module _ {F P : Type 0} (g : FileMeanings F) (filter : FilterMeanings P) (law : 
           let place = (done.rows.idle.rows.each y x.0 x.1).0 in
           record {
             place = sym (ap (λ (z : RowLine). z.row) x.2) ∙ place;
-            sampler = (let a = ap (λ (z : RowLine). z.sampler) x.2 in let n = its.among in let few = may.rows.shared.kit.few in omega (arith, a, n, few));
+            sampler = (let a = ap (λ (z : RowLine). z.sampler) x.2 in let n = its.among in let few = may.rows.shared.pool.few in omega (arith, a, n, few));
             from = (let a = ap (λ (z : RowLine). z.version) x.2 in let n = its.from in omega (arith, a, n));
             to = (let a = ap (λ (z : RowLine). z.version) x.2 in let n = its.to in omega (arith, a, n));
           };
@@ -175,9 +175,9 @@ module _ {F P : Type 0} (g : FileMeanings F) (filter : FilterMeanings P) (law : 
       let bytes = bytes_at s.drawn.elements y x.0 x.1 in
       subst (λ (z : Shape × ℕ × ℕ × ℕ × List ℕ). WasShared filter z.0 z.1 z.2 w.writer job.scene.path job.picture y z.3 z.4)
       (λ i. (
-        (sym (ap (λ (v : RowKit). v.geometry) done.rows.rest)) i,
-        (sym (ap (λ (v : RowKit). v.depth) done.rows.rest)) i,
-        (sym (ap (λ (v : RowKit). v.count) done.rows.rest)) i,
+        (sym (ap (λ (v : RowPool). v.geometry) done.rows.rest)) i,
+        (sym (ap (λ (v : RowPool). v.depth) done.rows.rest)) i,
+        (sym (ap (λ (v : RowPool). v.count) done.rows.rest)) i,
         (ap (λ (v : RowLine). v.version) x.2) i,
         sym bytes i,
       )) its.drawn
@@ -197,42 +197,42 @@ module _ {F P : Type 0} (g : FileMeanings F) (filter : FilterMeanings P) (law : 
   job_depth = may.rows.depth ∙ may.agree.depth ∙ sym same_depth
 
   job_width : job.scene.path.width ≡ s.width
-  job_width = may.rows.width ∙ sym (ap (λ (x : RowKit). x.width) done.rows.rest)
+  job_width = may.rows.width ∙ sym (ap (λ (x : RowPool). x.width) done.rows.rest)
 
-  replayed : IfSome (told_by g l.stores)
+  replayed : IfSome (known_bytes g l.stores)
       (λ bytes. AreReplayed l.depth s.width (λ m x y. filter.under (stored bytes) job.scene m job.picture x y) w.writer.journal report.rows.elements
       (bytes_of s.drawn.elements))
-  replayed = subst (λ (n : ℕ). IfSome (told_by g l.stores)
+  replayed = subst (λ (n : ℕ). IfSome (known_bytes g l.stores)
       (λ bytes. AreReplayed l.depth n (λ m x y. filter.under (stored bytes) job.scene m job.picture x y) w.writer.journal report.rows.elements
       (bytes_of s.drawn.elements))) job_width
-      (picture_replayed filter.shown filter.under law w.writer l.shape l.depth (told_by g l.stores) job.scene job.picture job.scene.path.width
-      report.rows.elements (bytes_of s.drawn.elements) done.rows.of.sound limits done.stream.kit.told stored_after job_shape job_depth
+      (picture_replayed filter.shown filter.under law w.writer l.shape l.depth (known_bytes g l.stores) job.scene job.picture job.scene.path.width
+      report.rows.elements (bytes_of s.drawn.elements) done.rows.of.sound limits done.stream.pool.known stored_after job_shape job_depth
       (λ y line is. subst (λ (z : Shape × ℕ). AreShown filter.shown z.0 z.1 line.version (IsNotedBy w.writer) (shot_row z.0 job.scene.path job.picture y)
       job.scene.path.width (get_or (bytes_of s.drawn.elements) y [])) (λ i. (agree.shape i, agree.depth i)) (from_draws y line is).drawn))
 
-  pictured : IsPictured (sharing_of filter) (drawn_by filter s (Some d)) job report.rows.elements (state_by g words w.writer.journal l s)
+  pictured : IsPictured (steal_drawing filter) (drawn_by filter s (Some d)) job report.rows.elements (state_by g words w.writer.journal l s)
   pictured = record {
     count = length-map s.drawn.elements (λ (j : RowJob). j.samples.elements) ∙ done.rows.idle.rows.number;
     full = rows_full;
     replayed = replayed;
     from_draws = from_draws;
-    all_counts = done.rows.idle.kit.counts ∙ ap (λ x. pages_of x) agree.shape;
+    all_counts = done.rows.idle.pool.counts ∙ ap (λ x. pages_of x) agree.shape;
     counts_are = λ p inside. done.rows.counted p (subst (λ x. p < pages_of x) (same_shape ∙ sym may.agree.shape) inside);
   }
 
   -- and what was done is a pass
-  pub finished : Ends (sharing_of filter) (drawn_by filter s (Some d)) (IsIdleSharing g words w l s) job (Ok report)
+  pub finished : EndsPassRun (steal_drawing filter) (drawn_by filter s (Some d)) (IsIdleSteal g words w l s) job (Ok report)
       (state_by g words start (stream_before k b.stream) r) (state_by g words w.writer.journal l s)
   finished = record {
     ran = record {
       setup = λ i. record {
         shape = same_shape i;
         depth = same_depth i;
-        width = (ap (λ (x : RowKit). x.width) done.rows.rest) i;
+        width = (ap (λ (x : RowPool). x.width) done.rows.rest) i;
         height = height_is i;
         frames = words.sizes.frames;
-        crew = (ap (λ (x : StreamKitView F). x.crew) done.stream.rest) i;
-        bytes = done.stream.told i;
+        crew = (ap (λ (x : LoaderPoolView F). x.crew) done.stream.rest) i;
+        bytes = done.stream.known i;
       };
       outcome = subst (λ (losses : List Bool). IsOutcome job.batch losses report.events.elements) (sym done.losses)
           (done.stream.outcome report.events.elements events_are);
@@ -270,6 +270,6 @@ module _ {F P : Type 0} (g : FileMeanings F) (filter : FilterMeanings P) (law : 
         (bytes_of s.drawn.elements)
     noted = subst (λ (z : Shape × ℕ). AreNotedRows filter z.0 z.1 t.streamer.writer w.writer job.scene.path job.picture report.rows.elements
         (bytes_of s.drawn.elements)) (λ i. (
-          (sym (ap (λ (v : RowKit). v.geometry) done.rows.rest)) i,
-          (sym (ap (λ (v : RowKit). v.depth) done.rows.rest)) i,
+          (sym (ap (λ (v : RowPool). v.geometry) done.rows.rest)) i,
+          (sym (ap (λ (v : RowPool). v.depth) done.rows.rest)) i,
         )) done.rows.noted

@@ -8,9 +8,9 @@ use Rattle.vt_grace.specs.Values.{WordsValue}
 use Rattle.vt_word_workers.specs.GivenPasses.{HaveNewPasses, HasGiven, AreSameSamplers}
 use Rattle.vt_shared_rows.specs.declared.bag.RowBag.{RowBag}
 use Rattle.vt_shared_rows.specs.declared.sampler.RowSampler.{RowSampler}
-use Rattle.vt_steal.specs.declared.row_kit.RowKit.{RowKit}
+use Rattle.vt_steal.specs.declared.row_pool.RowPool.{RowPool}
 use Rattle.vt_steal.specs.RowTasks.{RowTask}
-use Rattle.vt_steal.specs.RowKits.{samplers_of, IsSharedKit}
+use Rattle.vt_steal.specs.RowPools.{samplers_of, IsSharedPool}
 use Rattle.vt_steal.proofs.Lists.{same_by_place}
 
 -- the passes are new for the writer that gave them
@@ -32,18 +32,18 @@ samplers_alike before after same = same_by_place (samplers_of after) (samplers_o
     let e : RowTask = record { sampler = d; pass = None } in
     get_or-map (λ (t : RowTask). t.sampler) after n e d low ∙ same.each n e first ∙ sym (get_or-map (λ (t : RowTask). t.sampler) before n e d first))
 
--- a kit with other tasks of the same samplers stays prepared
-pub shared_still : (bag : RowBag) (k : RowKit) (tasks : ListView RowTask) (xs : List RowTask) (ys : List RowTask) → samplers_of ys ≡ samplers_of xs
-    → IsSharedKit bag k (samplers_of xs) → IsSharedKit bag (record k { tasks = tasks }) (samplers_of ys)
-shared_still bag k tasks xs ys same h = subst (λ (l : List RowSampler). IsSharedKit bag (record k { tasks = tasks }) l) (sym same) (record {
-  kit = record {
-    some = h.kit.some;
-    few = h.kit.few;
-    depth = h.kit.depth;
-    sides = h.kit.sides;
-    samplers_are = h.kit.samplers_are;
-    counts = h.kit.counts;
-    number = h.kit.number;
+-- a pool with other tasks of the same samplers stays prepared
+pub shared_still : (bag : RowBag) (k : RowPool) (tasks : ListView RowTask) (xs : List RowTask) (ys : List RowTask) → samplers_of ys ≡ samplers_of xs
+    → IsSharedPool bag k (samplers_of xs) → IsSharedPool bag (record k { tasks = tasks }) (samplers_of ys)
+shared_still bag k tasks xs ys same h = subst (λ (l : List RowSampler). IsSharedPool bag (record k { tasks = tasks }) l) (sym same) (record {
+  pool = record {
+    some = h.pool.some;
+    few = h.pool.few;
+    depth = h.pool.depth;
+    sides = h.pool.sides;
+    samplers_are = h.pool.samplers_are;
+    counts = h.pool.counts;
+    number = h.pool.number;
   };
   shared = h.shared;
   lines = record { no_lines = h.lines.no_lines; room = h.lines.room };

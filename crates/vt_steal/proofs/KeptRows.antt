@@ -17,9 +17,9 @@ use Rattle.vt_shared_rows.specs.declared.bag.RowBag.{RowBag}
 use Rattle.vt_shared_rows.specs.declared.bag.BagPass.{BagPass}
 use Rattle.vt_shared_rows.specs.declared.sampler.RowSampler.{RowSampler}
 use Rattle.vt_shared_rows.specs.Bags.{view_of}
-use Rattle.vt_shared_rows.specs.SharedRows.{rows_of, AreRowsPut, HasTaken}
+use Rattle.vt_shared_rows.specs.SharedRows.{rows_of, AreRowsPut, HasTakenRows}
 use Rattle.vt_shared_rows.proofs.Taken.{taken_once, taken_fit, taken_rise}
-use Rattle.vt_steal.specs.RowKits.{shares_if, bag_shares, HasNewRows}
+use Rattle.vt_steal.specs.RowPools.{shares_if, bag_shares, HasNewRows}
 use Rattle.vt_steal.specs.RowEnds.{kept_rows}
 use Rattle.vt_steal.specs.Placing.{joined_if, all_rows_joined, ArePlaced, IsPlacedAt}
 use Rattle.vt_steal.proofs.Lists.{contained_of}
@@ -122,7 +122,7 @@ pub record HasKept (bag : RowBag) (height line : ℕ) (a b : RowSampler) : Type 
   pub had : a.rows ≡ Some before
   pub after : BagPass
   pub has : b.rows ≡ Some after
-  pub taken : HasTaken height line (view_of before) (view_of after) b.kept.elements
+  pub taken : HasTakenRows height line (view_of before) (view_of after) b.kept.elements
 
 module _ (bag : RowBag) (height line : ℕ) (left : PassView RowJob) (others bs : List RowSampler) (number : length bs ≡ length others)
     (each : (n : ℕ) (b : RowSampler) → slice_get bs n ≡ Some b → (a : RowSampler) × (slice_get others n ≡ Some a) × HasKept bag height line a b)

@@ -1,15 +1,15 @@
--- Samplers and rows of a kit, made one after another.
+-- Samplers and rows of a pool, made one after another.
 use Rattle.std.proofs.Common.{◌≡◌, ℕ, ◌+◌, List, [], ◌∷◌, ◌++◌, length, None, refl, sym, ap, ◌∙◌, subst}
 use Rattle.std.specs.List.{concat}
 use Rattle.std.proofs.lemmas.List.{map-append, length-append, append-nil, append_assoc}
 use Rattle.std.proofs.lemmas.Option.{none-some}
 use Rattle.vt_pages.specs.Shape.{Shape}
-use Rattle.vt_word_workers.proofs.Kits.{each_more}
+use Rattle.vt_word_workers.proofs.WorkerPools.{each_more}
 use Rattle.vt_shared_rows.specs.declared.bag.RowJob.{RowJob}
 use Rattle.vt_shared_rows.specs.declared.sampler.RowSampler.{RowSampler}
 use Rattle.vt_steal.specs.RowTasks.{RowTask}
 use Rattle.vt_steal.specs.RowEnds.{bytes_of}
-use Rattle.vt_steal.specs.RowKits.{samplers_of, IsRowSampler, AreRowSamplers, AreInPlace}
+use Rattle.vt_steal.specs.RowPools.{samplers_of, IsRowSampler, AreRowSamplers, AreInPlace}
 
 pub samplers_push : (tasks : List RowTask) (task : RowTask) → samplers_of (tasks ++ task ∷ []) ≡ samplers_of tasks ++ task.sampler ∷ []
 samplers_push tasks task = map-append (λ (t : RowTask). t.sampler) tasks (task ∷ [])

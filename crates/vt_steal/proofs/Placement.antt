@@ -9,7 +9,7 @@ use Rattle.vt_load.specs.QueueTypes.views.PassView.{PassView}
 use Rattle.vt_shared_rows.specs.declared.bag.RowJob.{RowJob}
 use Rattle.vt_shared_rows.specs.declared.sampler.RowSampler.{RowSampler}
 use Rattle.vt_steal.specs.RowTasks.{RowTask}
-use Rattle.vt_steal.specs.RowKits.{samplers_of}
+use Rattle.vt_steal.specs.RowPools.{samplers_of}
 use Rattle.vt_steal.specs.RowEnds.{kept_rows}
 use Rattle.vt_steal.specs.Placing.{IsPlacedAt, ArePlaced, counted_by, joined_if, all_rows_joined}
 

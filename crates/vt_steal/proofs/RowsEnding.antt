@@ -23,9 +23,9 @@ use Rattle.vt_shared_rows.specs.declared.bag.RowBag.{RowBag}
 use Rattle.vt_shared_rows.specs.declared.bag.BagPass.{BagPass}
 use Rattle.vt_shared_rows.specs.Bags.{view_of}
 use Rattle.vt_shared_rows.proofs.Keepers.{refilled}
-use Rattle.vt_steal.specs.declared.row_kit.RowKit.{RowKit}
+use Rattle.vt_steal.specs.declared.row_pool.RowPool.{RowPool}
 use Rattle.vt_steal.specs.RowTasks.{RowTask}
-use Rattle.vt_steal.specs.RowKits.{samplers_of, AreRowSamplers}
+use Rattle.vt_steal.specs.RowPools.{samplers_of, AreRowSamplers}
 use Rattle.vt_steal.specs.RowEnds.{kept_rows, lines_of, MayEndRows, IsRowOfPass, HasEndedRows, line_of, bytes_of}
 use Rattle.vt_steal.specs.Placing.{ArePlaced, counted_by, all_rows_joined, ended_task}
 use Rattle.vt_steal.proofs.EndedRows.{returned_ended, counted_ended, samplers_stay, all_in, each_once, counted, counts_low, rows_of_pass, in_place, rising, rows_noted}
@@ -47,7 +47,7 @@ bytes_at jobs y job is =
     get_or-map (λ (j : RowJob). j.samples.elements) jobs y job [] (slice_get_within jobs y job is)
     ∙ ap (λ (j : RowJob). j.samples.elements) (get_or_from_slice_get jobs y job job is)
 
-module _ {P : Type 0} (filter : FilterMeanings P) (words : WordsValue) (bag : RowBag) (k : RowKit) (scene : Scene) (picture : ℕ)
+module _ {P : Type 0} (filter : FilterMeanings P) (words : WordsValue) (bag : RowBag) (k : RowPool) (scene : Scene) (picture : ℕ)
     (start : WriterView) (t : StreamerView) (e f : List RowTask) (h : MayEndRows filter words bag k scene picture start t e f)
     (lent : List RowTask) (lent_is : lent ≡ f) (joined : PassView RowJob) (joined_is : joined ≡ all_rows_joined (view_of k.rows) (samplers_of lent))
     (empty : IsAtStep joined []) where
@@ -57,7 +57,7 @@ module _ {P : Type 0} (filter : FilterMeanings P) (words : WordsValue) (bag : Ro
 
   pub low_counts : WantsFew filter.wants → (p : ℕ) → p < length k.counts → counted_by (map ended_task f) p < 2 ^ 32
   low_counts most p inside = subst (λ (n : ℕ). n < 2 ^ 32) (sym (counted_ended f p))
-      (counts_low filter words bag k scene picture start t e f h is_empty most p (subst (λ (n : ℕ). p < n) h.shared.kit.counts inside))
+      (counts_low filter words bag k scene picture start t e f h is_empty most p (subst (λ (n : ℕ). p < n) h.shared.pool.counts inside))
 
   pub ended_rows : (jobs us : List RowJob) → jobs ≡ k.drawn.elements → ArePlaced (kept_rows (samplers_of lent)) jobs us
       → (w : StreamerView) → IsStreamerOf words w → w ≡ record t { writer = all_returned t.writer (map ended_task f) }
@@ -81,14 +81,14 @@ module _ {P : Type 0} (filter : FilterMeanings P) (words : WordsValue) (bag : Ro
       record {
         rest = refl;
         idle = record {
-          kit = record {
-            some = h.shared.kit.some;
-            few = h.shared.kit.few;
-            depth = h.shared.kit.depth;
-            sides = h.shared.kit.sides;
+          pool = record {
+            some = h.shared.pool.some;
+            few = h.shared.pool.few;
+            depth = h.shared.pool.depth;
+            sides = h.shared.pool.sides;
             samplers_are = subst (λ (l : List RowTask). AreRowSamplers k.geometry k.count (samplers_of l)) (sym tasks_are)
                 (samplers_stay filter words bag k scene picture start t e f h);
-            counts = number ∙ h.shared.kit.counts;
+            counts = number ∙ h.shared.pool.counts;
             number = (in_place filter words bag k scene picture start t e f h is_empty drawn.elements placed_is).number;
           };
           rows = in_place filter words bag k scene picture start t e f h is_empty drawn.elements placed_is;
@@ -114,7 +114,7 @@ module _ {P : Type 0} (filter : FilterMeanings P) (words : WordsValue) (bag : Ro
               (rows_noted filter words bag k scene picture start t e f h is_empty drawn.elements placed_is y at.0 at.1);
         };
         rising = rising filter words bag k scene picture start t e f h is_empty drawn.elements placed_is;
-        counted = λ p inside. sums p (subst (λ (n : ℕ). p < n) (sym h.shared.kit.counts) inside) ∙ counted_ended f p
+        counted = λ p inside. sums p (subst (λ (n : ℕ). p < n) (sym h.shared.pool.counts) inside) ∙ counted_ended f p
             ∙ counted filter words bag k scene picture start t e f h is_empty p inside;
         once = each_once filter words bag k scene picture start t e f h is_empty;
       }

@@ -1,6 +1,6 @@
 pub mod RowTasks
-pub mod RowKits
+pub mod RowPools
 pub mod RowEnds
 pub mod Placing
-pub mod SharingMachines
-pub mod SharingLaws
+pub mod StealMachines
+pub mod StealLaws

@@ -6,12 +6,12 @@ use Rattle.vt_shared_rows.specs.declared.bag.RowJob.{RowJob}
 use Rattle.vt_shared_rows.specs.declared.bag.RowBag.{RowBag}
 use Rattle.vt_shared_rows.specs.declared.bag.BagPass.{BagPass}
 use Rattle.vt_shared_rows.specs.declared.sampler.RowSampler.{RowSampler}
-use Rattle.vt_shared_rows.specs.Bags.{view_of, IsOf}
+use Rattle.vt_shared_rows.specs.Bags.{view_of, IsPassOfBag}
 use Rattle.vt_steal.specs.RowTasks.{RowTask}
 
 -- its number is below that of the rows
-abbrev pub IsInside : ℕ → RowJob → Type 0
-IsInside height job = job.row < height
+abbrev pub IsRowInside : ℕ → RowJob → Type 0
+IsRowInside height job = job.row < height
 
 -- at a place is one of these rows, which has its number; or, where none has it, what was there
 abbrev pub IsPlacedAt : List RowJob → ℕ → RowJob → RowJob → Type 0
@@ -47,5 +47,5 @@ ended_task task = record task {
 
 -- what a sampler has left may be taken in
 pub record MayTakeIn (bag : RowBag) (height : ℕ) (task : RowTask) : Type 0 where
-  pub rows : IfSome task.sampler.rows (IsOf bag)
-  pub inside : All (IsInside height) task.sampler.kept.elements
+  pub rows : IfSome task.sampler.rows (IsPassOfBag bag)
+  pub inside : All (IsRowInside height) task.sampler.kept.elements

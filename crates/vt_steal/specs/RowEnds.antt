@@ -19,14 +19,14 @@ use Rattle.vt_word_workers.specs.Noted.{IsNotedBy, AreNotedRows}
 use Rattle.vt_machine.specs.All.{AllDid}
 use Rattle.vt_word_workers.specs.GivenPasses.{HaveNewPasses, all_returned}
 use Rattle.vt_word_workers.specs.HeldPasses.{IsHeldRow}
-use Rattle.vt_word_workers.specs.Kits.{AreAllIn}
+use Rattle.vt_word_workers.specs.WorkerPools.{AreAllIn}
 use Rattle.vt_shared_rows.specs.declared.bag.RowJob.{RowJob}
 use Rattle.vt_shared_rows.specs.declared.bag.RowBag.{RowBag}
 use Rattle.vt_shared_rows.specs.declared.sampler.RowSampler.{RowSampler}
 use Rattle.vt_shared_rows.specs.SharedRows.{rows_of}
-use Rattle.vt_steal.specs.declared.row_kit.RowKit.{RowKit}
+use Rattle.vt_steal.specs.declared.row_pool.RowPool.{RowPool}
 use Rattle.vt_steal.specs.RowTasks.{RowTask, HasDrawnShared}
-use Rattle.vt_steal.specs.RowKits.{samplers_of, IsIdleRows, IsSharedKit}
+use Rattle.vt_steal.specs.RowPools.{samplers_of, IsIdleRows, IsSharedPool}
 
 -- the rows that samplers keep, one sampler's after the other's
 abbrev pub kept_rows : List RowSampler → List RowJob
@@ -55,9 +55,9 @@ pub record WasShared {P : Type 0} (filter : FilterMeanings P) (s : Shape) (d sam
   pub held : Contains by.held version
 
 -- the samplers have drawn the rows of a picture, with passes of the words that were given to them at the start
-pub record MayEndRows {P : Type 0} (filter : FilterMeanings P) (words : WordsValue) (bag : RowBag) (k : RowKit) (scene : Scene) (picture : ℕ)
+pub record MayEndRows {P : Type 0} (filter : FilterMeanings P) (words : WordsValue) (bag : RowBag) (k : RowPool) (scene : Scene) (picture : ℕ)
     (start : WriterView) (t : StreamerView) (before after : List RowTask) : Type 0 where
-  pub shared : IsSharedKit bag k (samplers_of before)
+  pub shared : IsSharedPool bag k (samplers_of before)
   pub shape : scene.shape ≡ k.geometry
   pub depth : scene.depth ≡ k.depth
   pub width : scene.path.width ≡ k.width
@@ -69,7 +69,7 @@ pub record MayEndRows {P : Type 0} (filter : FilterMeanings P) (words : WordsVal
   pub of : IsStreamerOf words t
 
 -- the row at a place was drawn by one of the samplers, at a version of the pass, which its sampler's pass held
-pub record IsRowOfPass {P : Type 0} (filter : FilterMeanings P) (k : RowKit) (scene : Scene) (picture : ℕ) (start w : WriterView)
+pub record IsRowOfPass {P : Type 0} (filter : FilterMeanings P) (k : RowPool) (scene : Scene) (picture : ℕ) (start w : WriterView)
     (returned : List Returned) (y : ℕ) (job : RowJob) : Type 0 where
   pub among : job.sampler < k.count
   pub from : version_of start ≤ job.version
@@ -88,7 +88,7 @@ pub record IsEachRowOnce (height : ℕ) (tasks : List RowTask) : Type 0 where
   pub rise : (n : ℕ) (task : RowTask) → slice_get tasks n ≡ Some task → AllPairs (λ a b. a.row < b.row) task.sampler.kept.elements
 
 -- the rows are in their places, and the streamer has the passes of the samplers back
-pub record HasEndedRows {P : Type 0} (filter : FilterMeanings P) (words : WordsValue) (k l : RowKit) (scene : Scene) (picture : ℕ)
+pub record HasEndedRows {P : Type 0} (filter : FilterMeanings P) (words : WordsValue) (k l : RowPool) (scene : Scene) (picture : ℕ)
     (start : WriterView) (t w : StreamerView) (tasks : List RowTask) (lines : List RowLine) : Type 0 where
   pub rest : l ≡ record k { tasks = l.tasks; drawn = l.drawn; lines = l.lines; counts = l.counts; rows = l.rows }
   pub idle : IsIdleRows l

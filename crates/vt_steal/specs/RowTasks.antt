@@ -3,7 +3,7 @@ use Rattle.std.specs.Prelude.{◌≡◌, ℕ, ◌<◌, true, Some, length, rever
 use Rattle.vt_definitions.specs.Depths.{IsDepth}
 use Rattle.vt_grace.specs.Values.{WordsValue, PassValue}
 use Rattle.vt_grace.specs.Tokens.{IsPassOf}
-use Rattle.vt_shared_rows.specs.Notes.{Fits, HasHeldMore}
+use Rattle.vt_shared_rows.specs.Notes.{FitsShape, HasHeldMore}
 use Rattle.vt_pictures.specs.Scenes.{Scene}
 use Rattle.vt_pictures.specs.declared.filters.Filter.{Ghosts as FilterMeanings}
 use Rattle.vt_word_workers.specs.SamplerTypes.samplers.WithPass.{WithPass}
@@ -21,7 +21,7 @@ pub record MayDrawShared (words : WordsValue) (bag : RowBag) (scene : Scene) (pi
   pub share : MayShare bag scene.shape scene.path a.sampler
   pub depth : IsDepth scene.depth
   pub picture_is : picture < length scene.path.cameras
-  pub fits : Fits scene.shape words.sizes
+  pub fits : FitsShape scene.shape words.sizes
   pub pass : PassValue
   pub has : a.pass ≡ Some pass
   pub of : IsPassOf words pass

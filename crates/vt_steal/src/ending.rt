@@ -3,13 +3,13 @@
 ghost use Rattle.std.specs.Prelude.{◌≡◌, ◌+◌, ◌<◌, ◌≤◌, ◌^◌, ℕ, List, [], IfSome, All, length, map, slice_index};
 ghost use Rattle.vt_grace.specs.declared.views.WriterView.{WriterView as Writer};
 ghost use Rattle.vt_pictures.specs.Scenes.{scene_of};
-ghost use Rattle.vt_shared_rows.specs.Bags.{view_of, IsOf};
+ghost use Rattle.vt_shared_rows.specs.Bags.{view_of, IsPassOfBag};
 ghost use Rattle.vt_steal.specs.RowTasks.{RowTask as Task};
-ghost use Rattle.vt_steal.specs.RowKits.{samplers_of};
+ghost use Rattle.vt_steal.specs.RowPools.{samplers_of};
 ghost use Rattle.vt_steal.specs.RowEnds.{MayEndRows, HasEndedRows, kept_rows, lines_of};
-ghost use Rattle.vt_steal.specs.Placing.{IsInside, ArePlaced, counted_by, joined_if, all_rows_joined, ended_task, MayTakeIn};
+ghost use Rattle.vt_steal.specs.Placing.{IsRowInside, ArePlaced, counted_by, joined_if, all_rows_joined, ended_task, MayTakeIn};
 
-use crate::row_kit::{RowKit, RowTask};
+use crate::row_pool::{RowPool, RowTask};
 use std::mem;
 use std::sync::Wait;
 use vt_feedback::Counts;
@@ -22,7 +22,7 @@ use vt_word_workers::{Streamer, return_passes};
 
 // Puts the rows that a sampler keeps into the places of their numbers.
 fn place_rows(kept: &mut Items<RowJob>, drawn: &mut [RowJob])
-    requires { All (IsInside (length drawn.old)) kept.old.elements }
+    requires { All (IsRowInside (length drawn.old)) kept.old.elements }
     ensures kept { kept.new ≡ record { elements = []; spare = kept.old.spare + length kept.old.elements } }
     ensures placed { ArePlaced kept.old.elements drawn.old drawn.new }
 {
@@ -34,10 +34,10 @@ fn place_rows(kept: &mut Items<RowJob>, drawn: &mut [RowJob])
 
 // Makes a sampler's pass of a bag one with another, and puts the rows that it keeps into their places.
 fn take_in(bag: &RowBag, rows: &mut BagPass, drawn: &mut [RowJob], task: &mut RowTask)
-    requires of { IsOf bag.now rows.old }
-    requires rows { IfSome task.old.sampler.rows (IsOf bag.now) }
-    requires inside { All (IsInside (length drawn.old)) task.old.sampler.kept.elements }
-    ensures of { IsOf bag.now rows.new }
+    requires of { IsPassOfBag bag.now rows.old }
+    requires rows { IfSome task.old.sampler.rows (IsPassOfBag bag.now) }
+    requires inside { All (IsRowInside (length drawn.old)) task.old.sampler.kept.elements }
+    ensures of { IsPassOfBag bag.now rows.new }
     ensures joined { view_of rows.new ≡ joined_if (view_of rows.old) task.old.sampler.rows }
     ensures placed { ArePlaced task.old.sampler.kept.elements drawn.old drawn.new }
     ensures task { task.new ≡ ended_task task.old }
@@ -52,9 +52,9 @@ fn take_in(bag: &RowBag, rows: &mut BagPass, drawn: &mut [RowJob], task: &mut Ro
 
 // The same for all samplers.
 fn take_all_in(bag: &RowBag, rows: &mut BagPass, drawn: &mut [RowJob], tasks: &mut [RowTask])
-    requires of { IsOf bag.now rows.old }
+    requires of { IsPassOfBag bag.now rows.old }
     requires tasks { All (MayTakeIn bag.now (length drawn.old)) tasks.old }
-    ensures of { IsOf bag.now rows.new }
+    ensures of { IsPassOfBag bag.now rows.new }
     ensures joined { view_of rows.new ≡ all_rows_joined (view_of rows.old) (samplers_of tasks.old) }
     ensures placed { ArePlaced (kept_rows (samplers_of tasks.old)) drawn.old drawn.new }
     ensures tasks { tasks.new ≡ map ended_task tasks.old }
@@ -92,7 +92,7 @@ fn note_lines(lines: &mut RowLines, drawn: &[RowJob])
     }
 }
 
-impl RowKit {
+impl RowPool {
     /// Puts the rows that samplers keep into their places, takes their passes of the words back, moves the samplers back, and tells by whom each
     /// row was drawn, and at which version. It takes no memory. It may wait.
     pub(crate) fn finish<Rt: Wait, P: Filter>(

@@ -5,11 +5,11 @@
 mod ending;
 mod machine;
 mod passes;
-mod row_kit;
+mod row_pool;
 mod shared;
 mod sharing;
 
-pub use machine::{SharingMachine, StealMachine};
-pub use row_kit::{RowKit, RowTask};
-pub use shared::SharingShared;
+pub use machine::{StealMachine, StealMachineBy};
+pub use row_pool::{RowPool, RowTask};
+pub use shared::StealShared;
 pub use vt_shared_rows::{BagPass, RowBag, RowJob, RowSampler};

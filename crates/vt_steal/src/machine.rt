@@ -8,11 +8,11 @@ ghost use Rattle.vt_word_workers.specs.Views.{IsStreamerOf};
 ghost use Rattle.vt_machine.specs.Crews.{IsCrew, AreFrames};
 ghost use Rattle.vt_machine.specs.Machines.{AreStoresFor};
 ghost use Rattle.vt_machine.specs.Jobs.{job_of};
-ghost use Rattle.vt_steal.specs.SharingMachines.{SharingView, sharing_of, sharing_state, IsIdleBy, IsReadyBy, drawn_by, AreOut, Begun, MayFinish, SharingFinishes, held_by};
+ghost use Rattle.vt_steal.specs.StealMachines.{StealView, steal_drawing, steal_state, IsIdleBy, IsReadyBy, drawn_by, AreOut, Begun, MayFinish, StealFinishes, held_by};
 
 use crate::passes::{end_pass, prepare_pass};
-use crate::row_kit::{RowKit, RowTask};
-use crate::shared::SharingShared;
+use crate::row_pool::{RowPool, RowTask};
+use crate::shared::StealShared;
 use std::alloc::Global;
 use std::marker::Model;
 use std::mem;
@@ -30,25 +30,25 @@ use vt_pass::place_page;
 use vt_pictures::{Filter, Nearest, Shot};
 use vt_shared_rows::RowBag;
 use vt_tiles::Stores;
-use vt_word_workers::{StreamKit, WordShared, WordStreamer, answered, new_parts};
+use vt_word_workers::{LoaderPool, WordShared, WordStreamer, answered, new_parts};
 
 /// A machine that draws the rows of a picture by a filter, each under a version that its sampler holds meanwhile, where each sampler takes the
 /// next row when it has drawn the last; and that streams the batch at the same time.
-pub struct SharingMachine<F: File, P: Filter> {
-    shared: SharingShared<P>,
+pub struct StealMachineBy<F: File, P: Filter> {
+    shared: StealShared<P>,
     // It is out while a pass is run.
     streamer: Option<WordStreamer>,
-    streams: StreamKit<F>,
-    rows: RowKit,
+    streams: LoaderPool<F>,
+    rows: RowPool,
 }
 
 /// The machine that shares rows, and draws each pixel of one texel.
-pub type StealMachine<F> = SharingMachine<F, Nearest>;
+pub type StealMachine<F> = StealMachineBy<F, Nearest>;
 
-impl<F: File, P: Filter> Model for SharingMachine<F, P> {
-    ghost use Rattle.vt_steal.specs.SharingMachines.{SharingView};
+impl<F: File, P: Filter> Model for StealMachineBy<F, P> {
+    ghost use Rattle.vt_steal.specs.StealMachines.{StealView};
 
-    ghost Value = { SharingView F };
+    ghost Value = { StealView F };
 
     ghost view = { λ m. record {
       words = m.shared.words;
@@ -60,14 +60,14 @@ impl<F: File, P: Filter> Model for SharingMachine<F, P> {
     } };
 }
 
-impl<F: File + Send, P: Filter + Sync> PassMachine for SharingMachine<F, P> {
+impl<F: File + Send, P: Filter + Sync> PassMachine for StealMachineBy<F, P> {
     ghost use Rattle.std.specs.Prelude.{false};
     ghost use Rattle.vt_tiles.specs.Format.{stored};
-    ghost use Rattle.vt_steal.specs.SharingLaws.{come_back, has_ended, none_refused};
+    ghost use Rattle.vt_steal.specs.StealLaws.{come_back, has_ended, none_refused};
 
     type File = F;
 
-    type Shared = SharingShared<P>;
+    type Shared = StealShared<P>;
 
     type Loader = QueuedLoader<F>;
 
@@ -83,9 +83,9 @@ impl<F: File + Send, P: Filter + Sync> PassMachine for SharingMachine<F, P> {
         Self::DEALT
     }
 
-    ghost drawing = { sharing_of P.Filter };
+    ghost drawing = { steal_drawing P.Filter };
 
-    ghost state = { λ m. sharing_state F.File m };
+    ghost state = { λ m. steal_state F.File m };
 
     ghost is_idle = { λ m. IsIdleBy F.File m.words m.streamer m.streams m.rows };
 
@@ -105,7 +105,7 @@ impl<F: File + Send, P: Filter + Sync> PassMachine for SharingMachine<F, P> {
         × MayFinish F.File P.Filter n.words n.queues n.bag n.streams n.rows job loaders samplers streamer b };
 
     ghost reattached = { λ n job loaders samplers streamer p result. IsOk result
-        × SharingFinishes F.File P.Filter job result n loaders samplers streamer p };
+        × StealFinishes F.File P.Filter job result n loaders samplers streamer p };
 
     fn make_from<Rt: Threads + Wait + Sync>(
         _rt: &Rt,
@@ -119,16 +119,16 @@ impl<F: File + Send, P: Filter + Sync> PassMachine for SharingMachine<F, P> {
     ) -> Result<Self, NoMemory> {
         let (parts, own, asks) = new_parts::<P>(alloc, geometry, frames, crew.samplers)?;
         let (bag, pass) = RowBag::new(alloc)?;
-        let rows = RowKit::new(alloc, geometry, path, crew.samplers, depth, pass)?;
+        let rows = RowPool::new(alloc, geometry, path, crew.samplers, depth, pass)?;
         let held = mem::replace(stores, Items::new(alloc));
-        let streams = StreamKit::new(alloc, geometry, crew, depth, asks, held);
+        let streams = LoaderPool::new(alloc, geometry, crew, depth, asks, held);
         let WordShared {
             words,
             queues,
             filter,
         } = parts;
-        Ok(SharingMachine {
-            shared: SharingShared {
+        Ok(StealMachineBy {
+            shared: StealShared {
                 words,
                 queues,
                 bag,
@@ -187,7 +187,7 @@ impl<F: File + Send, P: Filter + Sync> PassMachine for SharingMachine<F, P> {
         }
     }
 
-    fn shared(&self) -> &SharingShared<P> {
+    fn shared(&self) -> &StealShared<P> {
         &self.shared
     }
 
@@ -204,7 +204,7 @@ impl<F: File + Send, P: Filter + Sync> PassMachine for SharingMachine<F, P> {
         requires { (b : Begun F) × MayFinish F.File P.Filter self.old.words self.old.queues self.old.bag self.old.streams self.old.rows
             (job_of shot.now batch.now.elements) loaders.elements samplers.elements streamer b }
         ensures { IsOk result
-            × SharingFinishes F.File P.Filter (job_of shot.now batch.now.elements) result
+            × StealFinishes F.File P.Filter (job_of shot.now batch.now.elements) result
             self.old loaders.elements samplers.elements streamer self.new }
     {
         let report = end_pass::<Rt, F, P>(
@@ -238,7 +238,7 @@ impl<F: File + Send, P: Filter + Sync> PassMachine for SharingMachine<F, P> {
     }
 
     fn end<Rt: Threads + Wait + Sync>(self, _rt: &Rt) -> Stores<Self::File> {
-        let SharingMachine {
+        let StealMachineBy {
             shared: _,
             streamer: _,
             streams,

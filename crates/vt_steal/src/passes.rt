@@ -5,11 +5,11 @@ ghost use Rattle.vt_journal.specs.Changes.{newest};
 ghost use Rattle.vt_machine.specs.Crews.{last_start};
 ghost use Rattle.vt_machine.specs.Outcomes.{IsBatchFor};
 ghost use Rattle.vt_machine.specs.Jobs.{job_of};
-ghost use Rattle.vt_word_workers.specs.StreamKits.{IsSameStream};
-ghost use Rattle.vt_steal.specs.SharingMachines.{IsIdleSharing, IsReadySharing, Begun, MayFinish, HasFinished};
+ghost use Rattle.vt_word_workers.specs.LoaderPools.{IsSameStream};
+ghost use Rattle.vt_steal.specs.StealMachines.{IsIdleSteal, IsReadySteal, Begun, MayFinish, HasTakenWorkersBack};
 
-use crate::row_kit::{RowKit, RowTask};
-use crate::shared::SharingShared;
+use crate::row_pool::{RowPool, RowTask};
+use crate::shared::StealShared;
 use std::sync::Wait;
 use std::thread::Threads;
 use vt_evict::Batch;
@@ -17,24 +17,24 @@ use vt_load::QueuedLoader;
 use vt_machine::PassReport;
 use vt_outside::{File, Items, NoMemory};
 use vt_pictures::{Filter, Shot};
-use vt_word_workers::{StreamKit, WordStreamer};
+use vt_word_workers::{LoaderPool, WordStreamer};
 
 /// Makes all room for a pass that streams a batch, puts its requests into new queues and the rows into a new bag, and gives the samplers their
 /// passes. It may wait.
 pub(crate) fn prepare_pass<Rt: Threads + Wait, F: File, P: Filter>(
     rt: &Rt,
-    shared: &mut SharingShared<P>,
+    shared: &mut StealShared<P>,
     own: &mut WordStreamer,
-    streams: &mut StreamKit<F>,
-    rows: &mut RowKit,
+    streams: &mut LoaderPool<F>,
+    rows: &mut RowPool,
     batch: &Batch,
 ) -> Result<(), NoMemory>
-    requires idle { IsIdleSharing F.File shared.old.words own.old.streamer streams.old rows.old }
+    requires idle { IsIdleSteal F.File shared.old.words own.old.streamer streams.old rows.old }
     requires lawful { IsBatchFor own.old.streamer.shape (length own.old.streamer.owners)
         (newest own.old.streamer.writer.journal) batch.now.elements }
     requires few { length batch.now.elements ≤ streams.old.crew.batch }
     requires early { length own.old.streamer.writer.journal ≤ last_start }
-    ensures ready { OnOk result (IsReadySharing F.File shared.new.words shared.new.queues shared.new.bag own.new streams.new rows.new
+    ensures ready { OnOk result (IsReadySteal F.File shared.new.words shared.new.queues shared.new.bag own.new streams.new rows.new
         batch.now.elements) }
     ensures words { shared.new.words ≡ shared.old.words }
     ensures journal { own.new.streamer.writer.journal ≡ own.old.streamer.writer.journal }
@@ -54,9 +54,9 @@ pub(crate) fn prepare_pass<Rt: Threads + Wait, F: File, P: Filter>(
 /// wait.
 pub(crate) fn end_pass<Rt: Threads + Wait, F: File, P: Filter>(
     rt: &Rt,
-    shared: &SharingShared<P>,
-    streams: &mut StreamKit<F>,
-    rows: &mut RowKit,
+    shared: &StealShared<P>,
+    streams: &mut LoaderPool<F>,
+    rows: &mut RowPool,
     loaders: Items<QueuedLoader<F>>,
     samplers: Items<RowTask>,
     own: &mut WordStreamer,
@@ -67,7 +67,7 @@ pub(crate) fn end_pass<Rt: Threads + Wait, F: File, P: Filter>(
         (job_of shot.now batch.now.elements) loaders.elements samplers.elements own.old b }
     ensures { (b : Begun F) → MayFinish F.File P.Filter shared.now.words shared.now.queues shared.now.bag streams.old rows.old
         (job_of shot.now batch.now.elements) loaders.elements samplers.elements own.old b
-        → HasFinished F.File P.Filter shared.now.words streams.old streams.new rows.old rows.new (job_of shot.now batch.now.elements)
+        → HasTakenWorkersBack F.File P.Filter shared.now.words streams.old streams.new rows.old rows.new (job_of shot.now batch.now.elements)
         result samplers.elements own.old own.new.streamer b }
 {
     let (events, losses) = streams.end_round(

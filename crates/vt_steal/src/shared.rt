@@ -3,7 +3,7 @@
 ghost use Rattle.vt_pictures.specs.Scenes.{scene_of};
 ghost use Rattle.vt_steal.specs.RowTasks.{MayDrawShared, HasDrawnShared};
 
-use crate::row_kit::RowTask;
+use crate::row_pool::RowTask;
 use std::marker::PhantomData;
 use std::mem;
 use std::sync::Wait;
@@ -19,7 +19,7 @@ use vt_word_workers::{WordStreamer, stream_own};
 
 /// What the workers of a pass whose rows are shared have in common.
 #[derive(Drop)]
-pub struct SharingShared<P: Filter> {
+pub struct StealShared<P: Filter> {
     /// The words of the page table and of the frames.
     pub words: Words,
     /// The queues of the requests and of the results.
@@ -56,7 +56,7 @@ fn draw_own<Rt: Wait, P: Filter, G: Gate>(
     }
 }
 
-impl<F: File, P: Filter + Sync> Task<SharingShared<P>> for QueuedLoader<F> {
+impl<F: File, P: Filter + Sync> Task<StealShared<P>> for QueuedLoader<F> {
     ghost use Rattle.vt_load.specs.QueuedLoaders.{MayLoad, HasLoaded};
 
     ghost ready = { λ shared job loader. MayLoad F.File shared.queues loader };
@@ -66,7 +66,7 @@ impl<F: File, P: Filter + Sync> Task<SharingShared<P>> for QueuedLoader<F> {
     fn work<Rt: Threads + Wait, G: Gate>(
         &mut self,
         rt: &Rt,
-        shared: &SharingShared<P>,
+        shared: &StealShared<P>,
         _shot: &Shot<'_>,
         _batch: &[Planned],
         gate: &G,
@@ -75,7 +75,7 @@ impl<F: File, P: Filter + Sync> Task<SharingShared<P>> for QueuedLoader<F> {
     }
 }
 
-impl<P: Filter + Sync> Task<SharingShared<P>> for RowTask {
+impl<P: Filter + Sync> Task<StealShared<P>> for RowTask {
     // So that a sampler whose row is slow holds up no other.
     const ALONE: bool = true;
 
@@ -86,7 +86,7 @@ impl<P: Filter + Sync> Task<SharingShared<P>> for RowTask {
     fn work<Rt: Threads + Wait, G: Gate>(
         &mut self,
         rt: &Rt,
-        shared: &SharingShared<P>,
+        shared: &StealShared<P>,
         shot: &Shot<'_>,
         _batch: &[Planned],
         gate: &G,
@@ -95,17 +95,17 @@ impl<P: Filter + Sync> Task<SharingShared<P>> for RowTask {
     }
 }
 
-impl<P: Filter + Sync> Task<SharingShared<P>> for WordStreamer {
-    ghost use Rattle.vt_word_workers.specs.WordTasks.{MayStream, HasFed};
+impl<P: Filter + Sync> Task<StealShared<P>> for WordStreamer {
+    ghost use Rattle.vt_word_workers.specs.WordTasks.{MayStream, HasStreamedWords};
 
     ghost ready = { λ shared job task. MayStream shared.words shared.queues job.batch task };
 
-    ghost did = { λ shared job before after. HasFed shared.words shared.queues job.batch before after };
+    ghost did = { λ shared job before after. HasStreamedWords shared.words shared.queues job.batch before after };
 
     fn work<Rt: Threads + Wait, G: Gate>(
         &mut self,
         rt: &Rt,
-        shared: &SharingShared<P>,
+        shared: &StealShared<P>,
         _shot: &Shot<'_>,
         batch: &[Planned],
         gate: &G,

@@ -5,12 +5,12 @@ ghost use Rattle.vt_load.specs.PassViews.{first_view, pass_view, all_shares};
 ghost use Rattle.vt_load.specs.Orders.{placed};
 ghost use Rattle.vt_word_workers.specs.Views.{IsStreamerOf};
 ghost use Rattle.vt_shared_rows.specs.declared.bag.RowBag.{RowBag as Bag};
-ghost use Rattle.vt_shared_rows.specs.Bags.{view_of, IsOf};
+ghost use Rattle.vt_shared_rows.specs.Bags.{view_of, IsPassOfBag};
 ghost use Rattle.vt_word_workers.specs.GivenPasses.{HaveNewPasses, HasGiven};
-ghost use Rattle.vt_word_workers.specs.Kits.{AreAllIn};
-ghost use Rattle.vt_steal.specs.RowKits.{samplers_of, IsIdleRows, IsSharedKit, IsEquipped, AreEquipped};
+ghost use Rattle.vt_word_workers.specs.WorkerPools.{AreAllIn};
+ghost use Rattle.vt_steal.specs.RowPools.{samplers_of, IsIdleRows, IsSharedPool, IsEquipped, AreEquipped};
 
-use crate::row_kit::{RowKit, RowTask};
+use crate::row_pool::{RowPool, RowTask};
 use std::alloc::Global;
 use std::mem;
 use std::sync::Wait;
@@ -31,9 +31,9 @@ fn no_row(alloc: Global) -> RowJob {
 
 // Puts a row into a bag.
 fn put_row<Rt: Wait>(rt: &Rt, bag: &RowBag, rows: &mut BagPass, job: RowJob) -> Result<(), NoMemory>
-    requires of { IsOf bag.now rows.old }
+    requires of { IsPassOfBag bag.now rows.old }
     requires whole { (view_of rows.old).shares ≡ all_shares }
-    ensures of { IsOf bag.now rows.new }
+    ensures of { IsPassOfBag bag.now rows.new }
     ensures put { OnOk result (view_of rows.new ≡ pass_view all_shares (view_of rows.old).known
         ((view_of rows.old).put ++ (length (view_of rows.old).put, job) ∷ []) (view_of rows.old).took) }
 {
@@ -51,9 +51,9 @@ fn put_rows<Rt: Wait>(
     rows: &mut BagPass,
     drawn: &mut [RowJob],
 ) -> Result<(), NoMemory>
-    requires of { IsOf bag.now rows.old }
+    requires of { IsPassOfBag bag.now rows.old }
     requires new { view_of rows.old ≡ first_view }
-    ensures of { IsOf bag.now rows.new }
+    ensures of { IsPassOfBag bag.now rows.new }
     ensures put { OnOk result (view_of rows.new ≡ pass_view all_shares [] (placed 0 drawn.old) []) }
     ensures number { length drawn.new ≡ length drawn.old }
 {
@@ -72,8 +72,8 @@ fn equip(
     height: u32,
     task: &mut RowTask,
 ) -> Result<(), NoMemory>
-    requires of { IsOf bag.now rows.old }
-    ensures of { IsOf bag.now rows.new }
+    requires of { IsPassOfBag bag.now rows.old }
+    ensures of { IsPassOfBag bag.now rows.new }
     ensures equipped { OnOk result (IsEquipped bag.now height (view_of rows.old) (view_of rows.new) task.old task.new) }
 {
     task.sampler.kept.reserve(u64::from(height))?;
@@ -89,8 +89,8 @@ fn equip_all(
     height: u32,
     tasks: &mut [RowTask],
 ) -> Result<(), NoMemory>
-    requires of { IsOf bag.now rows.old }
-    ensures of { IsOf bag.now rows.new }
+    requires of { IsPassOfBag bag.now rows.old }
+    ensures of { IsPassOfBag bag.now rows.new }
     ensures equipped { OnOk result (AreEquipped bag.now height (length tasks.old) (view_of rows.old) (view_of rows.new)
         tasks.old tasks.new) }
 {
@@ -100,11 +100,11 @@ fn equip_all(
     Ok(())
 }
 
-impl RowKit {
+impl RowPool {
     /// Puts all rows into a new bag, in order, with their buffers, and splits a pass of it off for each sampler. It may wait.
     pub(crate) fn share<Rt: Wait>(&mut self, rt: &Rt, bag: &mut RowBag) -> Result<(), NoMemory>
         requires { IsIdleRows self.old }
-        ensures shared { OnOk result (IsSharedKit bag.new self.new (samplers_of self.new.tasks.elements)) }
+        ensures shared { OnOk result (IsSharedPool bag.new self.new (samplers_of self.new.tasks.elements)) }
         ensures rest { self.new ≡ record self.old {
           tasks = self.new.tasks;
           drawn = self.new.drawn;
@@ -131,11 +131,11 @@ impl RowKit {
         requires of { IsStreamerOf words.now streamer.old }
         requires samplers { words.now.sizes.samplers ≡ self.old.count }
         requires all_in { AreAllIn streamer.old }
-        requires shared { (bag : Bag) × IsSharedKit bag self.old (samplers_of self.old.tasks.elements) }
+        requires shared { (bag : Bag) × IsSharedPool bag self.old (samplers_of self.old.tasks.elements) }
         ensures of { IsStreamerOf words.now streamer.new }
         ensures passes { HaveNewPasses words.now streamer.new.writer self.new.tasks.elements }
-        ensures shared { (bag : Bag) → IsSharedKit bag self.old (samplers_of self.old.tasks.elements)
-            → IsSharedKit bag self.new (samplers_of self.new.tasks.elements) }
+        ensures shared { (bag : Bag) → IsSharedPool bag self.old (samplers_of self.old.tasks.elements)
+            → IsSharedPool bag self.new (samplers_of self.new.tasks.elements) }
         ensures rest { self.new ≡ record self.old { tasks = self.new.tasks } }
         ensures streamer { streamer.new ≡ record streamer.old { writer = streamer.new.writer } }
         ensures given { HasGiven streamer.old.writer streamer.new.writer }

@@ -4,7 +4,7 @@ use Rattle.std.proofs.lemmas.List.{append-nil}
 use Rattle.std.specs.Prelude.{option_map, flat_map}
 use Rattle.std.specs.List.{range_with_len}
 use Rattle.vt_outside.specs.Files.{Files, IsThere, with_bytes, with_appended}
-use Rattle.vt_outside.proofs.Changes.{told-bytes-appended, front_of_two, front_of_first}
+use Rattle.vt_outside.proofs.Changes.{known-bytes-appended, front_of_two, front_of_first}
 use Rattle.vt_definitions.specs.Texels.{Source}
 use Rattle.vt_mip.specs.Chains.{ChainView, chain_texel}
 use Rattle.vt_pages.specs.Shape.{Shape}
@@ -43,7 +43,7 @@ pub adds_more : (s : Shape) (d : ℕ) (src : Source) (a p q : ℕ) (name tiles :
 adds_more s d src a p q name tiles f0 f1 f2 h k adds are added = record {
   held = λ before done e.
       added ∙ ap (option_map (with_appended name tiles)) (adds.held before done e)
-      ∙ told-bytes-appended name (done ++ tiles_bytes s d src a (p - a)) tiles before
+      ∙ known-bytes-appended name (done ++ tiles_bytes s d src a (p - a)) tiles before
       ∙ ap (λ l. option_map (with_bytes name l) before)
       (ap (λ l. (done ++ tiles_bytes s d src a (p - a)) ++ l) are
       ∙ append_assoc done (tiles_bytes s d src a (p - a)) (tiles_bytes s d src p (q - p))
@@ -66,7 +66,7 @@ adds_part s d src a p q name tiles f0 f1 f2 h k inside adds are added =
       held = λ before done e.
           added.1 ∙ ap (λ l. option_map (with_appended name (take added.0 l)) f1) are
           ∙ ap (option_map (with_appended name (take added.0 two))) (adds.held before done e)
-          ∙ told-bytes-appended name (done ++ one) (take added.0 two) before
+          ∙ known-bytes-appended name (done ++ one) (take added.0 two) before
           ∙ ap (λ l. option_map (with_bytes name l) before)
           (append_assoc done one (take added.0 two)
           ∙ ap (λ l. done ++ l) (front_of_two one two added.0 ∙ front.1 ∙ ap (take front.0) (sym whole)));

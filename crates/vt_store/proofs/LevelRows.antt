@@ -17,7 +17,7 @@ use Rattle.vt_pages.specs.declared.PageName.{PageName}
 use Rattle.vt_pages.specs.Shape.{Shape}
 use Rattle.vt_pages.specs.Pages.{IsPage, IsWithinLimits, levels_of, pages_below, columns_at, rows_at, index_at, name_at}
 use Rattle.vt_pages.proofs.Counts.{columns_some, lt_up, pages_below-suc, pages_below_le, pages_of-is}
-use Rattle.vt_store.specs.ChainStores.{AddsPages, AddsPart, HasLevelTexels, IsLevelOf}
+use Rattle.vt_store.specs.ChainStores.{AddsPages, AddsPart, HasLevelTexels, IsHalvedLevelOf}
 use Rattle.vt_tiles.specs.Format.{tiles_bytes}
 use Rattle.vt_tiles.specs.TileLines.{HasTileRows, rows_inside, tile_rows_length}
 use Rattle.vt_store.proofs.AddedPages.{adds_none, adds_more, adds_part, there_bytes}
@@ -61,7 +61,7 @@ pub read_rows : (s : Shape) (p : ImageView) (v : HalvingView) (src : Source) (n 
     → r < rows_at s k → name_at s n ≡ record { level = k; col = 0; row = r } → v.width ≡ side s.width k → v.height ≡ side s.height k
     → v.taken ≡ r * s.tile → length rows ≡ texel_length v.depth * (v.width * rows_inside s n)
     → ((q : ImageView) → ShrinksFront q v → IsPiece q.samples (texel_length q.depth * (q.width * v.taken)) rows)
-    → IsLevelOf src k p v → HasTileRows s p.depth src n rows
+    → IsHalvedLevelOf src k p v → HasTileRows s p.depth src n rows
 read_rows s p v src n k r rows limits level row named wide high taken full read has =
     let piece = read p has.front in
     let z : ℕ = texel_length p.depth in

@@ -10,12 +10,12 @@ use Rattle.vt_outside.specs.declared.answers.OutsideError.TheVariants as outside
 use Rattle.vt_tiles.specs.declared.error.StoreError.{StoreError}
 use Rattle.vt_tiles.specs.declared.error.StoreError.TheVariants.{Failed}
 use Rattle.vt_tiles.specs.Refusals.{IsOutsideRefusal, refusal_by}
-use Rattle.vt_store.specs.Steps.{Makes, AddsFront, Adds, Steps}
+use Rattle.vt_store.specs.Steps.{Makes, AddsFront, AddsBytes, Steps}
 
 -- how an append ends
 pub adds_of : {T : Type 0} (n tiles : List ℕ) (f g : Option Files) (m k : ℕ) (r : Result T OutsideError)
     → OnOk r (g ≡ option_map (with_appended n tiles) f) → OnErr r ((p : ℕ) × (g ≡ option_map (with_appended n (take p tiles)) f))
-    → (IsErrOf r outside_error.Failed → IsThere f n → Rose m k) → Adds n tiles f g m k r
+    → (IsErrOf r outside_error.Failed → IsThere f n → Rose m k) → AddsBytes n tiles f g m k r
 adds_of n tiles f g m k (Ok x) whole part failed = whole
 adds_of n tiles f g m k (Err e) whole part failed = record {
   part = part.0;

@@ -8,7 +8,7 @@ use Rattle.vt_definitions.proofs.Levels.{side_at_least}
 use Rattle.vt_ppm.specs.declared.header.Header.{Header}
 use Rattle.vt_ppm.specs.Format.{depth_of}
 use Rattle.vt_ppm.specs.Image.{ImageView, IsLawfulImage}
-use Rattle.vt_ppm.specs.Strips.{IsTextureIfTold, texture_of, row_length}
+use Rattle.vt_ppm.specs.Strips.{IsTextureIfKnown, texture_of, row_length}
 use Rattle.vt_ppm.proofs.SampleValues.{depth_is}
 use Rattle.vt_mip.specs.Halves.{IsHalf}
 use Rattle.vt_mip.specs.Levels.{IsLevel}
@@ -121,11 +121,11 @@ rest_tiles s h b p limits ew eh level =
     })
 
 -- the image that was halved is level 1
-pub level_made : (told : Option (List ℕ)) (h : Header) (half : HalvingView) (p : ImageView) → IsTextureIfTold told h
-    → ((b : List ℕ) → told ≡ Some b → HalvesFront (texture_of h b) half)
+pub level_made : (known : Option (List ℕ)) (h : Header) (half : HalvingView) (p : ImageView) → IsTextureIfKnown known h
+    → ((b : List ℕ) → known ≡ Some b → HalvesFront (texture_of h b) half)
     → ((q : ImageView) → HalvesFront q half → IsHalf q p) → IsLawfulImage p
-    → (b : List ℕ) → told ≡ Some b → IsLevel (texture_of h b) 1 p
-level_made told h half p texture halves made lawful b e =
+    → (b : List ℕ) → known ≡ Some b → IsLevel (texture_of h b) 1 p
+level_made known h half p texture halves made lawful b e =
     let t = texture.each b e in
     half_is_next (texture_of h b) p t.image.depth t.image.some_columns t.image.some_rows t.bytes (made (texture_of h b) (halves b e)) lawful
 

@@ -11,7 +11,7 @@ use Rattle.vt_outside.specs.declared.place.Place.{Place}
 use Rattle.vt_ppm.specs.declared.header.Header.{Header}
 use Rattle.vt_ppm.specs.Format.{depth_of}
 use Rattle.vt_ppm.specs.StripPlaces.{strip_rows, strips_of, StripsAsked, StripsTried}
-use Rattle.vt_ppm.specs.Strips.{RowsAsked, rows_of, texture_of}
+use Rattle.vt_ppm.specs.Strips.{RowsAsked, sample_rows, texture_of}
 use Rattle.vt_mip.specs.TakenRows.{HalvingView, HalvesFront}
 use Rattle.vt_pages.specs.Shape.{Shape, shape_of}
 use Rattle.vt_pages.specs.Pages.{IsWithinLimits, columns_at, rows_at}
@@ -30,11 +30,11 @@ use Rattle.vt_store.proofs.WideStores.{rose_along}
 
 -- nothing is lost where nothing was done
 pub keeps_none : (a : StripsState) → KeepsStrips a a
-keeps_none a = record { told = refl; called = refl; header = refl; tile = refl; faults = omega arith }
+keeps_none a = record { known = refl; called = refl; header = refl; tile = refl; faults = omega arith }
 
 pub keeps_on : (a b c : StripsState) → KeepsStrips a b → KeepsStrips b c → KeepsStrips a c
 keeps_on a b c p q = record {
-  told = q.told ∙ p.told;
+  known = q.known ∙ p.known;
   called = q.called ∙ p.called;
   header = q.header ∙ p.header;
   tile = q.tile ∙ p.tile;
@@ -48,10 +48,10 @@ asked_at h t i y count failed p q ey ec one =
     subst (λ (n : ℕ). RowsAsked h (i * t) n failed p q) ec (subst (λ (n : ℕ). RowsAsked h n count failed p q) ey one)
 
 -- a strip's rows, where they were read by their first one and their number
-pub rows_told : (told : Option (List ℕ)) (h : Header) (t i y count : ℕ) (rows : List ℕ) → y ≡ i * t → count ≡ strip_rows h t i
-    → IfSome told (λ b. rows ≡ rows_of h b y count) → IfSome told (λ b. rows ≡ rows_of h b (i * t) (strip_rows h t i))
-rows_told told h t i y count rows ey ec are =
-    subst (λ (n : ℕ). IfSome told (λ b. rows ≡ rows_of h b (i * t) n)) ec (subst (λ (n : ℕ). IfSome told (λ b. rows ≡ rows_of h b n count)) ey are)
+pub rows_of_known : (known : Option (List ℕ)) (h : Header) (t i y count : ℕ) (rows : List ℕ) → y ≡ i * t → count ≡ strip_rows h t i
+    → IfSome known (λ b. rows ≡ sample_rows h b y count) → IfSome known (λ b. rows ≡ sample_rows h b (i * t) (strip_rows h t i))
+rows_of_known known h t i y count rows ey ec are =
+    subst (λ (n : ℕ). IfSome known (λ b. rows ≡ sample_rows h b (i * t) n)) ec (subst (λ (n : ℕ). IfSome known (λ b. rows ≡ sample_rows h b n count)) ey are)
 
 -- which of a strip's places were asked that was read, or not
 pub read_of : {T E : Type 0} (s : Shape) (i : ℕ) (a b : StripsState) (rows : List ℕ) (r : Result T E) → ReadsStrip s i a b rows r → StripTried s i a b
@@ -78,9 +78,9 @@ is_next s i a columns next limits across =
 
 -- The name holds the tiles of the first strips, those of strip i are made, and the strips up to it were read and halved
 pub record IsAhead (s : Shape) (n : List ℕ) (i : ℕ) (a b : StripsState) (f g : Option Files) (m k : ℕ) (row : List ℕ) : Type 0 where
-  pub held : (before : Option Files) → HoldsMade a.told (strip_front s a.header 0) n before f
-      → HoldsMade a.told (strip_front s a.header (i * columns_at s 0)) n before g
-  pub tiles : (bytes : List ℕ) → a.told ≡ Some bytes → row ≡ strip_tiles s a.header i bytes
+  pub held : (before : Option Files) → HoldsMade a.known (strip_front s a.header 0) n before f
+      → HoldsMade a.known (strip_front s a.header (i * columns_at s 0)) n before g
+  pub tiles : (bytes : List ℕ) → a.known ≡ Some bytes → row ≡ strip_tiles s a.header i bytes
   pub read : StripsAsked a.header s.tile (i + 1) a.places b.places
   pub spare : rows_at s 0 ≤ b.spare + (i + 1)
   pub kept : KeepsStrips a b
@@ -88,7 +88,7 @@ pub record IsAhead (s : Shape) (n : List ℕ) (i : ℕ) (a b : StripsState) (f g
   pub width : b.half.width ≡ a.half.width
   pub height : b.half.height ≡ a.half.height
   pub taken : b.half.taken ≡ min ((i + 1) * s.tile) a.header.height
-  pub halves : (bytes : List ℕ) → a.told ≡ Some bytes → HalvesFront (texture_of a.header bytes) a.half → HalvesFront (texture_of a.header bytes) b.half
+  pub halves : (bytes : List ℕ) → a.known ≡ Some bytes → HalvesFront (texture_of a.header bytes) a.half → HalvesFront (texture_of a.header bytes) b.half
   pub faults : m ≤ k
 
 module _ (s : Shape) (n : List ℕ) (a : StripsState) (first : IsNextStrip s 0 a) (limits : IsWithinLimits s) where
@@ -102,15 +102,15 @@ module _ (s : Shape) (n : List ℕ) (a : StripsState) (first : IsNextStrip s 0 a
   all_strips = strips_are s a.header.height s.tile high refl
 
   -- a prefix of the store, as callers see it
-  seen : (before g : Option Files) → HoldsMadeFront a.told (store_made s a.header) n before g → HoldsMadeFront a.told (state_store a) n before g
-  seen before g holds = subst (λ (z : Shape). HoldsMadeFront a.told (store_made z a.header) n before g) (sym first.shape) holds
+  seen : (before g : Option Files) → HoldsMadeFront a.known (store_made s a.header) n before g → HoldsMadeFront a.known (state_store a) n before g
+  seen before g holds = subst (λ (z : Shape). HoldsMadeFront a.known (store_made z a.header) n before g) (sym first.shape) holds
 
   -- the first strip was not read
   pub first_lost : (b : StripsState) (f : Option Files) (m : ℕ) → StripLost s 0 a b → StripsStopped s n a b f f m m Failed
   first_lost b f m lost = record {
     part = λ before h. seen before f
-        (made_part a.told a.told s a.header a.header 0 n before f f refl refl (strip_inside s 0 limits.some_level first.inside)
-        (made_moved a.told s a.header n before f 0 (0 * columns_at s 0) (omega arith) h) (inl refl));
+        (made_part a.known a.known s a.header a.header 0 n before f f refl refl (strip_inside s 0 limits.some_level first.inside)
+        (made_moved a.known s a.header n before f 0 (0 * columns_at s 0) (omega arith) h) (inl refl));
     front_read = strip_tried a.header a.header s.tile 0 (0 * s.tile) (strip_rows a.header s.tile 0) a.places a.places b.places
         (omega (arith, all_strips, first.inside)) (no_strips a.header s.tile a.places a.places refl) refl refl refl (inr lost.read);
     failed = λ _ before h. inr lost.rose;
@@ -121,7 +121,7 @@ module _ (s : Shape) (n : List ℕ) (a : StripsState) (first : IsNextStrip s 0 a
   pub ahead_begun : (b : StripsState) (f : Option Files) (m : ℕ) (tiles : List ℕ) → rows_at s 0 ≤ a.spare → StripMade s 0 a b tiles
       → KeepsStrips a b → a.spare ≤ b.spare + 1 → IsAhead s n 0 a b f f m m tiles
   ahead_begun b f m tiles enough made kept spare = record {
-    held = λ before h. made_moved a.told s a.header n before f 0 (0 * columns_at s 0) (omega arith) h;
+    held = λ before h. made_moved a.known s a.header n before f 0 (0 * columns_at s 0) (omega arith) h;
     tiles = made.tiles;
     read = more_strips a.header a.header s.tile 0 (0 * s.tile) (strip_rows a.header s.tile 0) a.places a.places b.places
         (no_strips a.header s.tile a.places a.places refl) refl refl refl made.read;
@@ -153,16 +153,16 @@ module _ (s : Shape) (n : List ℕ) (a : StripsState) (first : IsNextStrip s 0 a
 
     -- the tiles that are made, where some of them were added
     pub ahead_part : (p : ℕ) (h : Option Files) → i < rows_at s 0 → h ≡ option_map (with_appended n (take p tiles)) g
-        → (before : Option Files) → HoldsMade a.told (strip_front s a.header 0) n before f → HoldsMadeFront a.told (state_store a) n before h
+        → (before : Option Files) → HoldsMade a.known (strip_front s a.header 0) n before f → HoldsMadeFront a.known (state_store a) n before h
     ahead_part p h inside held before begun = seen before h
-        (made_part a.told a.told s a.header a.header i n before g h refl refl (strip_inside s i limits.some_level inside) (ahead.held before begun)
+        (made_part a.known a.known s a.header a.header i n before g h refl refl (strip_inside s i limits.some_level inside) (ahead.held before begun)
         (inr (record { more = tiles; part = p; held = held; same = ahead.tiles })))
 
     -- where all were added
     ahead_added : (h : Option Files) → h ≡ option_map (with_appended n tiles) g → (before : Option Files)
-        → HoldsMade a.told (strip_front s a.header 0) n before f → HoldsMade a.told (strip_front s a.header ((i + 1) * columns_at s 0)) n before h
+        → HoldsMade a.known (strip_front s a.header 0) n before f → HoldsMade a.known (strip_front s a.header ((i + 1) * columns_at s 0)) n before h
     ahead_added h held before begun =
-        made_more a.told a.told s a.header a.header i n before g h refl refl (ahead.held before begun)
+        made_more a.known a.known s a.header a.header i n before g h refl refl (ahead.held before begun)
         (record { more = tiles; held = held; same = ahead.tiles })
 
     -- one step more
@@ -174,7 +174,7 @@ module _ (s : Shape) (n : List ℕ) (a : StripsState) (first : IsNextStrip s 0 a
         let made = done.made in
         record {
           held = ahead_added h done.added;
-          tiles = λ bytes is. made.tiles bytes (ahead.kept.told ∙ is) ∙ ap (λ (z : Header). strip_tiles s z (i + 1) bytes) e;
+          tiles = λ bytes is. made.tiles bytes (ahead.kept.known ∙ is) ∙ ap (λ (z : Header). strip_tiles s z (i + 1) bytes) e;
           read = more_strips a.header b.header s.tile (i + 1) ((i + 1) * s.tile) (strip_rows b.header s.tile (i + 1)) a.places b.places c.places
               ahead.read e refl (ap (λ (z : Header). strip_rows z s.tile (i + 1)) e) made.read;
           spare = omega (arith, ahead.spare, spare);
@@ -188,7 +188,7 @@ module _ (s : Shape) (n : List ℕ) (a : StripsState) (first : IsNextStrip s 0 a
           halves = λ bytes is half.
               let Half : Header → HalvingView → Type 0 = λ z v. HalvesFront (texture_of z bytes) v in
               subst (λ (z : Header). Half z c.half) e
-              (made.halves bytes (ahead.kept.told ∙ is) (subst (λ (z : Header). Half z b.half) (sym e) (ahead.halves bytes is half)));
+              (made.halves bytes (ahead.kept.known ∙ is) (subst (λ (z : Header). Half z b.half) (sym e) (ahead.halves bytes is half)));
           faults = omega (arith, ahead.faults, faults);
         }
 
@@ -199,7 +199,7 @@ module _ (s : Shape) (n : List ℕ) (a : StripsState) (first : IsNextStrip s 0 a
       part = ahead_part stopped.part h (omega arith) stopped.held;
       front_read = tried stopped.read;
       failed = λ is before begun. rose_along m k l a.faults b.faults c.faults ahead.faults ahead.kept.faults
-          (stopped.rose is (there_made a.told (strip_front s a.header (i * columns_at s 0)) n before g (ahead.held before begun)));
+          (stopped.rose is (there_made a.known (strip_front s a.header (i * columns_at s 0)) n before g (ahead.held before begun)));
       outside = stopped.outside;
     } where
       few : i + 1 < strips_of a.header s.tile
@@ -218,7 +218,7 @@ module _ (s : Shape) (n : List ℕ) (a : StripsState) (first : IsNextStrip s 0 a
       part = ahead_part adds.part h (omega arith) adds.held;
       front_read = strips_front a.header s.tile (i + 1) a.places b.places (omega (arith, all_strips, all)) ahead.read;
       failed = λ _ before begun. rose_along m k l a.faults b.faults b.faults ahead.faults ahead.kept.faults
-          (inl (adds.rose refl (there_made a.told (strip_front s a.header (i * columns_at s 0)) n before g (ahead.held before begun))));
+          (inl (adds.rose refl (there_made a.known (strip_front s a.header (i * columns_at s 0)) n before g (ahead.held before begun))));
       outside = subst IsOutsideRefusal (sym is) tt;
     }
     last_refused h l outside_error.NoMemory (Err x) all is adds = record {
@@ -231,7 +231,7 @@ module _ (s : Shape) (n : List ℕ) (a : StripsState) (first : IsNextStrip s 0 a
     -- it was added
     pub last_added : (h : Option Files) → i + 1 ≡ rows_at s 0 → h ≡ option_map (with_appended n tiles) g → StripsDone s n a b f h
     last_added h all held = record {
-      whole = λ before begun. made_moved a.told s a.header n before h ((i + 1) * columns_at s 0) (rows_at s 0 * columns_at s 0)
+      whole = λ before begun. made_moved a.known s a.header n before h ((i + 1) * columns_at s 0) (rows_at s 0 * columns_at s 0)
           (ap (λ (x : ℕ). x * columns_at s 0) all) (ahead_added h held before begun);
       all_read = subst (λ (x : ℕ). StripsAsked a.header s.tile x a.places b.places) (all ∙ sym all_strips) ahead.read;
       halves = ahead.halves;

@@ -3,7 +3,7 @@ use Rattle.std.proofs.Common.{◌≡◌, ℕ, ◌+◌, ◌-◌, ◌*◌, ◌≤�
 use Rattle.std.proofs.Math.Seq.{take-length}
 use Rattle.std.specs.Prelude.{option_map}
 use Rattle.vt_outside.specs.Files.{Files, IsThere, with_bytes, with_appended}
-use Rattle.vt_outside.proofs.Changes.{told-bytes-appended, front_of_two, front_of_first}
+use Rattle.vt_outside.proofs.Changes.{known-bytes-appended, front_of_two, front_of_first}
 use Rattle.vt_ppm.specs.declared.header.Header.{Header}
 use Rattle.vt_ppm.specs.Format.{depth_of}
 use Rattle.vt_definitions.specs.Texels.{Source}
@@ -21,33 +21,33 @@ use Rattle.vt_store.proofs.AddedPages.{there_bytes}
 abbrev pub store_made : Shape → Header → List ℕ → List ℕ
 store_made s h b = store_bytes s (depth_of h.maximum) (texture_texel h b)
 
-pub made_begun : (told : Option (List ℕ)) (s : Shape) (h : Header) (d : ℕ) (n : List ℕ) (f0 f1 : Option Files) → d ≡ depth_of h.maximum
-    → f1 ≡ option_map (with_bytes n (header_bytes s d)) f0 → HoldsMade told (strip_front s h 0) n f0 f1
-made_begun told s h d n f0 f1 ed held = record {
+pub made_begun : (known : Option (List ℕ)) (s : Shape) (h : Header) (d : ℕ) (n : List ℕ) (f0 f1 : Option Files) → d ≡ depth_of h.maximum
+    → f1 ≡ option_map (with_bytes n (header_bytes s d)) f0 → HoldsMade known (strip_front s h 0) n f0 f1
+made_begun known s h d n f0 f1 ed held = record {
   written = header_bytes s d;
   held = held;
   same = λ b e. ap (header_bytes s) ed ∙ front_none s (depth_of h.maximum) (texture_texel h b);
 }
 
-pub made_moved : (told : Option (List ℕ)) (s : Shape) (h : Header) (n : List ℕ) (f0 f1 : Option Files) (p q : ℕ) → p ≡ q
-    → HoldsMade told (strip_front s h p) n f0 f1 → HoldsMade told (strip_front s h q) n f0 f1
-made_moved told s h n f0 f1 p q e holds = subst (λ (m : ℕ). HoldsMade told (strip_front s h m) n f0 f1) e holds
+pub made_moved : (known : Option (List ℕ)) (s : Shape) (h : Header) (n : List ℕ) (f0 f1 : Option Files) (p q : ℕ) → p ≡ q
+    → HoldsMade known (strip_front s h p) n f0 f1 → HoldsMade known (strip_front s h q) n f0 f1
+made_moved known s h n f0 f1 p q e holds = subst (λ (m : ℕ). HoldsMade known (strip_front s h m) n f0 f1) e holds
 
 -- what is said of a chain that was only given room is said of it before
 pub seen_at : {A : Type 0} (P : A → Header → ℕ → Type 0) {a a' : A} {h h' : Header} {t t' : ℕ} → a' ≡ a → h' ≡ h → t' ≡ t → P a' h' t' → P a h t
 seen_at P {a} {a'} {h} {h'} {t} {t'} ea eh et is =
     subst (λ (m : ℕ). P a h m) et (subst (λ (z : Header). P a z t') eh (subst (λ (x : _). P x h' t') ea is))
 
-made_next : (told : Option (List ℕ)) (s : Shape) (h : Header) (i : ℕ) (n : List ℕ) (f0 f1 f2 : Option Files)
-    → HoldsMade told (strip_front s h (i * columns_at s 0)) n f0 f1 → GainsMade told (strip_tiles s h i) n f1 f2
-    → HoldsMade told (strip_front s h ((i + 1) * columns_at s 0)) n f0 f2
-made_next told s h i n f0 f1 f2 holds gains =
+made_next : (known : Option (List ℕ)) (s : Shape) (h : Header) (i : ℕ) (n : List ℕ) (f0 f1 f2 : Option Files)
+    → HoldsMade known (strip_front s h (i * columns_at s 0)) n f0 f1 → GainsMade known (strip_tiles s h i) n f1 f2
+    → HoldsMade known (strip_front s h ((i + 1) * columns_at s 0)) n f0 f2
+made_next known s h i n f0 f1 f2 holds gains =
     let p : ℕ = i * columns_at s 0 in
     let q : ℕ = (i + 1) * columns_at s 0 in
     let more : columns_at s 0 ≡ q - p = omega arith in
     record {
       written = holds.written ++ gains.more;
-      held = gains.held ∙ ap (option_map (with_appended n gains.more)) holds.held ∙ told-bytes-appended n holds.written gains.more f0;
+      held = gains.held ∙ ap (option_map (with_appended n gains.more)) holds.held ∙ known-bytes-appended n holds.written gains.more f0;
       same = λ b e.
           let d = depth_of h.maximum in
           let src = texture_texel h b in
@@ -56,16 +56,16 @@ made_next told s h i n f0 f1 f2 holds gains =
     }
 
 -- a strip more
-pub made_more : (told told' : Option (List ℕ)) (s : Shape) (h h' : Header) (i : ℕ) (n : List ℕ) (f0 f1 f2 : Option Files) → told' ≡ told → h' ≡ h
-    → HoldsMade told (strip_front s h (i * columns_at s 0)) n f0 f1 → GainsMade told' (strip_tiles s h' i) n f1 f2
-    → HoldsMade told (strip_front s h ((i + 1) * columns_at s 0)) n f0 f2
-made_more told told' s h h' i n f0 f1 f2 et eh holds gains =
-    made_next told s h i n f0 f1 f2 holds (subst (λ (z : Header). GainsMade told (strip_tiles s z i) n f1 f2) eh
+pub made_more : (known known' : Option (List ℕ)) (s : Shape) (h h' : Header) (i : ℕ) (n : List ℕ) (f0 f1 f2 : Option Files) → known' ≡ known → h' ≡ h
+    → HoldsMade known (strip_front s h (i * columns_at s 0)) n f0 f1 → GainsMade known' (strip_tiles s h' i) n f1 f2
+    → HoldsMade known (strip_front s h ((i + 1) * columns_at s 0)) n f0 f2
+made_more known known' s h h' i n f0 f1 f2 et eh holds gains =
+    made_next known s h i n f0 f1 f2 holds (subst (λ (z : Header). GainsMade known (strip_tiles s z i) n f1 f2) eh
     (subst (λ (t : Option (List ℕ)). GainsMade t (strip_tiles s h' i) n f1 f2) et gains))
 
-pub made_kept : (told : Option (List ℕ)) (s : Shape) (h : Header) (p : ℕ) (n : List ℕ) (f0 f1 f2 : Option Files) → p ≤ pages_of s
-    → HoldsMade told (strip_front s h p) n f0 f1 → f2 ≡ f1 → HoldsMadeFront told (store_made s h) n f0 f2
-made_kept told s h p n f0 f1 f2 inside holds same = record {
+pub made_kept : (known : Option (List ℕ)) (s : Shape) (h : Header) (p : ℕ) (n : List ℕ) (f0 f1 f2 : Option Files) → p ≤ pages_of s
+    → HoldsMade known (strip_front s h p) n f0 f1 → f2 ≡ f1 → HoldsMadeFront known (store_made s h) n f0 f2
+made_kept known s h p n f0 f1 f2 inside holds same = record {
   written = holds.written;
   held = same ∙ holds.held;
   part = λ b e.
@@ -79,13 +79,13 @@ made_kept told s h p n f0 f1 f2 inside holds same = record {
   take_all : (l : List ℕ) → take (length l) l ≡ l
   take_all l = take-length l
 
-made_front : (told : Option (List ℕ)) (s : Shape) (h : Header) (i : ℕ) (n : List ℕ) (f0 f1 f2 : Option Files) → (i + 1) * columns_at s 0 ≤ pages_of s
-    → HoldsMade told (strip_front s h (i * columns_at s 0)) n f0 f1 → GainsMadeFront told (strip_tiles s h i) n f1 f2
-    → HoldsMadeFront told (store_made s h) n f0 f2
-made_front told s h i n f0 f1 f2 inside holds gains = record {
+made_front : (known : Option (List ℕ)) (s : Shape) (h : Header) (i : ℕ) (n : List ℕ) (f0 f1 f2 : Option Files) → (i + 1) * columns_at s 0 ≤ pages_of s
+    → HoldsMade known (strip_front s h (i * columns_at s 0)) n f0 f1 → GainsMadeFront known (strip_tiles s h i) n f1 f2
+    → HoldsMadeFront known (store_made s h) n f0 f2
+made_front known s h i n f0 f1 f2 inside holds gains = record {
   written = holds.written ++ take gains.part gains.more;
   held = gains.held ∙ ap (option_map (with_appended n (take gains.part gains.more))) holds.held
-      ∙ told-bytes-appended n holds.written (take gains.part gains.more) f0;
+      ∙ known-bytes-appended n holds.written (take gains.part gains.more) f0;
   part = λ b e.
       let d = depth_of h.maximum in
       let src = texture_texel h b in
@@ -105,22 +105,22 @@ made_front told s h i n f0 f1 f2 inside holds gains = record {
 }
 
 -- a strip that was not added, or a part of it that was
-pub made_part : (told told' : Option (List ℕ)) (s : Shape) (h h' : Header) (i : ℕ) (n : List ℕ) (f0 f1 f2 : Option Files) → told' ≡ told → h' ≡ h
+pub made_part : (known known' : Option (List ℕ)) (s : Shape) (h h' : Header) (i : ℕ) (n : List ℕ) (f0 f1 f2 : Option Files) → known' ≡ known → h' ≡ h
     → (i + 1) * columns_at s 0 ≤ pages_of s
-    → HoldsMade told (strip_front s h (i * columns_at s 0)) n f0 f1 → (f2 ≡ f1) ⊎ GainsMadeFront told' (strip_tiles s h' i) n f1 f2
-    → HoldsMadeFront told (store_made s h) n f0 f2
-made_part told told' s h h' i n f0 f1 f2 et eh inside holds (inl same) = made_kept told s h (i * columns_at s 0) n f0 f1 f2 (omega arith) holds same
-made_part told told' s h h' i n f0 f1 f2 et eh inside holds (inr gains) =
-    made_front told s h i n f0 f1 f2 inside holds (subst (λ (z : Header). GainsMadeFront told (strip_tiles s z i) n f1 f2) eh
+    → HoldsMade known (strip_front s h (i * columns_at s 0)) n f0 f1 → (f2 ≡ f1) ⊎ GainsMadeFront known' (strip_tiles s h' i) n f1 f2
+    → HoldsMadeFront known (store_made s h) n f0 f2
+made_part known known' s h h' i n f0 f1 f2 et eh inside holds (inl same) = made_kept known s h (i * columns_at s 0) n f0 f1 f2 (omega arith) holds same
+made_part known known' s h h' i n f0 f1 f2 et eh inside holds (inr gains) =
+    made_front known s h i n f0 f1 f2 inside holds (subst (λ (z : Header). GainsMadeFront known (strip_tiles s z i) n f1 f2) eh
     (subst (λ (t : Option (List ℕ)). GainsMadeFront t (strip_tiles s h' i) n f1 f2) et gains))
 
 -- a prefix of the header
-pub made_header : (told : Option (List ℕ)) (s : Shape) (h : Header) (d : ℕ) (n : List ℕ) (f0 f1 : Option Files) → d ≡ depth_of h.maximum
+pub made_header : (known : Option (List ℕ)) (s : Shape) (h : Header) (d : ℕ) (n : List ℕ) (f0 f1 : Option Files) → d ≡ depth_of h.maximum
     → (f1 ≡ f0) ⊎ ((k : ℕ) × (f1 ≡ option_map (with_bytes n (take k (header_bytes s d))) f0))
-    → (f1 ≡ f0) ⊎ HoldsMadeFront told (store_made s h) n f0 f1
+    → (f1 ≡ f0) ⊎ HoldsMadeFront known (store_made s h) n f0 f1
 unfolding store_bytes
-made_header told s h d n f0 f1 ed (inl same) = inl same
-made_header told s h d n f0 f1 ed (inr part) = inr (record {
+made_header known s h d n f0 f1 ed (inl same) = inl same
+made_header known s h d n f0 f1 ed (inr part) = inr (record {
   written = take part.0 (header_bytes s (depth_of h.maximum));
   held = part.1 ∙ ap (λ (m : ℕ). option_map (with_bytes n (take part.0 (header_bytes s m))) f0) ed;
   part = λ b e. front_of_first (header_bytes s (depth_of h.maximum))
@@ -128,11 +128,11 @@ made_header told s h d n f0 f1 ed (inr part) = inr (record {
 })
 
 -- the tiles of the other levels behind those of the first
-pub made_whole : (told : Option (List ℕ)) (s : Shape) (h : Header) (d p : ℕ) (src : Source) (n : List ℕ) (f0 f1 f2 : Option Files) → p ≤ pages_of s
-    → HoldsMade told (strip_front s h p) n f0 f1 → AddsPages s d src p (pages_of s) n f1 f2
-    → ((b : List ℕ) → told ≡ Some b → tiles_bytes s d src p (pages_of s - p) ≡ tiles_bytes s (depth_of h.maximum) (texture_texel h b) p (pages_of s - p))
-    → HoldsMade told (store_made s h) n f0 f2
-made_whole told s h d p src n f0 f1 f2 inside holds adds same = record {
+pub made_whole : (known : Option (List ℕ)) (s : Shape) (h : Header) (d p : ℕ) (src : Source) (n : List ℕ) (f0 f1 f2 : Option Files) → p ≤ pages_of s
+    → HoldsMade known (strip_front s h p) n f0 f1 → AddsPages s d src p (pages_of s) n f1 f2
+    → ((b : List ℕ) → known ≡ Some b → tiles_bytes s d src p (pages_of s - p) ≡ tiles_bytes s (depth_of h.maximum) (texture_texel h b) p (pages_of s - p))
+    → HoldsMade known (store_made s h) n f0 f2
+made_whole known s h d p src n f0 f1 f2 inside holds adds same = record {
   written = holds.written ++ tiles_bytes s d src p (pages_of s - p);
   held = adds.held f0 holds.written holds.held;
   same = λ b e.
@@ -142,11 +142,11 @@ made_whole told s h d p src n f0 f1 f2 inside holds adds same = record {
       ∙ front_grown s e' t p (pages_of s) inside ∙ front_all s e' t;
 }
 
-made_rest : (told : Option (List ℕ)) (s : Shape) (h : Header) (d p : ℕ) (src : Source) (n : List ℕ) (f0 f1 f2 : Option Files) → p ≤ pages_of s
-    → HoldsMade told (strip_front s h p) n f0 f1 → AddsPart s d src p n f1 f2
-    → ((b : List ℕ) → told ≡ Some b → tiles_bytes s d src p (pages_of s - p) ≡ tiles_bytes s (depth_of h.maximum) (texture_texel h b) p (pages_of s - p))
-    → HoldsMadeFront told (store_made s h) n f0 f2
-made_rest told s h d p src n f0 f1 f2 inside holds adds same = record {
+made_rest : (known : Option (List ℕ)) (s : Shape) (h : Header) (d p : ℕ) (src : Source) (n : List ℕ) (f0 f1 f2 : Option Files) → p ≤ pages_of s
+    → HoldsMade known (strip_front s h p) n f0 f1 → AddsPart s d src p n f1 f2
+    → ((b : List ℕ) → known ≡ Some b → tiles_bytes s d src p (pages_of s - p) ≡ tiles_bytes s (depth_of h.maximum) (texture_texel h b) p (pages_of s - p))
+    → HoldsMadeFront known (store_made s h) n f0 f2
+made_rest known s h d p src n f0 f1 f2 inside holds adds same = record {
   written = holds.written ++ take adds.part (tiles_bytes s d src p (pages_of s - p));
   held = adds.held f0 holds.written holds.held;
   part = λ b e.
@@ -161,26 +161,26 @@ made_rest told s h d p src n f0 f1 f2 inside holds adds same = record {
       );
 }
 
-pub made_rest_part : (told : Option (List ℕ)) (s : Shape) (h : Header) (d p : ℕ) (src : Source) (n : List ℕ) (f0 f1 f2 : Option Files) → p ≤ pages_of s
-    → HoldsMade told (strip_front s h p) n f0 f1
-    → ((b : List ℕ) → told ≡ Some b → tiles_bytes s d src p (pages_of s - p) ≡ tiles_bytes s (depth_of h.maximum) (texture_texel h b) p (pages_of s - p))
-    → (f2 ≡ f1) ⊎ AddsPart s d src p n f1 f2 → HoldsMadeFront told (store_made s h) n f0 f2
-made_rest_part told s h d p src n f0 f1 f2 inside holds same (inl kept) = made_kept told s h p n f0 f1 f2 inside holds kept
-made_rest_part told s h d p src n f0 f1 f2 inside holds same (inr adds) = made_rest told s h d p src n f0 f1 f2 inside holds adds same
+pub made_rest_part : (known : Option (List ℕ)) (s : Shape) (h : Header) (d p : ℕ) (src : Source) (n : List ℕ) (f0 f1 f2 : Option Files) → p ≤ pages_of s
+    → HoldsMade known (strip_front s h p) n f0 f1
+    → ((b : List ℕ) → known ≡ Some b → tiles_bytes s d src p (pages_of s - p) ≡ tiles_bytes s (depth_of h.maximum) (texture_texel h b) p (pages_of s - p))
+    → (f2 ≡ f1) ⊎ AddsPart s d src p n f1 f2 → HoldsMadeFront known (store_made s h) n f0 f2
+made_rest_part known s h d p src n f0 f1 f2 inside holds same (inl kept) = made_kept known s h p n f0 f1 f2 inside holds kept
+made_rest_part known s h d p src n f0 f1 f2 inside holds same (inr adds) = made_rest known s h d p src n f0 f1 f2 inside holds adds same
 
 -- what callers see
-pub store_seen : {F : Type 0} (told : Option (List ℕ)) (v : StripChainView F) (s : Shape) (n : List ℕ) (f0 f1 : Option Files) → strip_shape v ≡ s
-    → HoldsMade told (store_made s v.header) n f0 f1 → HoldsMade told (strip_store v) n f0 f1
-store_seen told v s n f0 f1 shape holds = subst (λ (z : Shape). HoldsMade told (store_made z v.header) n f0 f1) (sym shape) holds
+pub store_seen : {F : Type 0} (known : Option (List ℕ)) (v : StripChainView F) (s : Shape) (n : List ℕ) (f0 f1 : Option Files) → strip_shape v ≡ s
+    → HoldsMade known (store_made s v.header) n f0 f1 → HoldsMade known (strip_store v) n f0 f1
+store_seen known v s n f0 f1 shape holds = subst (λ (z : Shape). HoldsMade known (store_made z v.header) n f0 f1) (sym shape) holds
 
-pub front_seen : {F : Type 0} (told : Option (List ℕ)) (v : StripChainView F) (s : Shape) (n : List ℕ) (f0 f1 : Option Files) → strip_shape v ≡ s
-    → HoldsMadeFront told (store_made s v.header) n f0 f1 → HoldsMadeFront told (strip_store v) n f0 f1
-front_seen told v s n f0 f1 shape holds = subst (λ (z : Shape). HoldsMadeFront told (store_made z v.header) n f0 f1) (sym shape) holds
+pub front_seen : {F : Type 0} (known : Option (List ℕ)) (v : StripChainView F) (s : Shape) (n : List ℕ) (f0 f1 : Option Files) → strip_shape v ≡ s
+    → HoldsMadeFront known (store_made s v.header) n f0 f1 → HoldsMadeFront known (strip_store v) n f0 f1
+front_seen known v s n f0 f1 shape holds = subst (λ (z : Shape). HoldsMadeFront known (store_made z v.header) n f0 f1) (sym shape) holds
 
-pub there_made : (told : Option (List ℕ)) (made : List ℕ → List ℕ) (n : List ℕ) (f0 f1 : Option Files) → HoldsMade told made n f0 f1 → IsThere f1 n
-there_made told made n f0 f1 holds = there_bytes n holds.written f0 f1 holds.held
+pub there_made : (known : Option (List ℕ)) (made : List ℕ → List ℕ) (n : List ℕ) (f0 f1 : Option Files) → HoldsMade known made n f0 f1 → IsThere f1 n
+there_made known made n f0 f1 holds = there_bytes n holds.written f0 f1 holds.held
 
-pub header_seen : {F : Type 0} (told : Option (List ℕ)) (v : StripChainView F) (s : Shape) (n : List ℕ) (f0 f1 : Option Files) → strip_shape v ≡ s
-    → (f1 ≡ f0) ⊎ HoldsMadeFront told (store_made s v.header) n f0 f1 → (f1 ≡ f0) ⊎ HoldsMadeFront told (strip_store v) n f0 f1
-header_seen told v s n f0 f1 shape (inl same) = inl same
-header_seen told v s n f0 f1 shape (inr part) = inr (front_seen told v s n f0 f1 shape part)
+pub header_seen : {F : Type 0} (known : Option (List ℕ)) (v : StripChainView F) (s : Shape) (n : List ℕ) (f0 f1 : Option Files) → strip_shape v ≡ s
+    → (f1 ≡ f0) ⊎ HoldsMadeFront known (store_made s v.header) n f0 f1 → (f1 ≡ f0) ⊎ HoldsMadeFront known (strip_store v) n f0 f1
+header_seen known v s n f0 f1 shape (inl same) = inl same
+header_seen known v s n f0 f1 shape (inr part) = inr (front_seen known v s n f0 f1 shape part)

@@ -11,7 +11,7 @@ use Rattle.vt_outside.specs.Files.{IsPiece}
 use Rattle.vt_ppm.specs.declared.header.Header.{Header}
 use Rattle.vt_ppm.specs.Format.{IsTexture, depth_of}
 use Rattle.vt_ppm.specs.Image.{texel_of}
-use Rattle.vt_ppm.specs.Strips.{IsTextureIfTold, texture_of, row_length, rows_of}
+use Rattle.vt_ppm.specs.Strips.{IsTextureIfKnown, texture_of, row_length, sample_rows}
 use Rattle.vt_mip.specs.StripChains.{texture_texel}
 use Rattle.vt_mip.proofs.Words.{chain-zero}
 use Rattle.vt_pages.specs.declared.PageName.{PageName}
@@ -88,7 +88,7 @@ strip_length s h i y count columns d n is ed full =
 
 -- and have the texture's words
 strip_rows_are : (s : Shape) (h : Header) (i y count columns : ℕ) (b rows : List ℕ) → IsStrip s h i y count columns → IsTexture b (texture_of h b)
-    → rows ≡ rows_of h b y count → HasTileRows s (depth_of h.maximum) (texture_texel h b) (i * columns) rows
+    → rows ≡ sample_rows h b y count → HasTileRows s (depth_of h.maximum) (texture_texel h b) (i * columns) rows
 strip_rows_are s h i y count columns b rows is texture read = record {
   each = subst (λ (z : PageName). (x v : ℕ) → x < side s.width z.level → v < min s.tile (side s.height z.level - z.row * s.tile)
       → piece_at (texel_length (depth_of h.maximum)) rows (v * side s.width z.level + x)
@@ -116,27 +116,27 @@ strip_rows_are s h i y count columns b rows is texture read = record {
       ∙ sym (texel_words d samples ((i * s.tile + v) * w + x) texture.image.depth texture.bytes)
       ∙ ap (word_bytes d) (sym (chain-zero d (texel_of (texture_of h b)) h.width h.height x (i * s.tile + v)))
 
-if_told : (told : Option (List ℕ)) (P : List ℕ → Type 0) (b : List ℕ) → told ≡ Some b → IfSome told P → P b
-if_told told P b e all = subst (λ (t : Option (List ℕ)). IfSome t P) e all
+if_known : (known : Option (List ℕ)) (P : List ℕ → Type 0) (b : List ℕ) → known ≡ Some b → IfSome known P → P b
+if_known known P b e all = subst (λ (t : Option (List ℕ)). IfSome t P) e all
 
 -- so the tiles that are made of them are the strip's
-pub strip_made : (told : Option (List ℕ)) (s : Shape) (h : Header) (i y count columns d : ℕ) (rows tiles : List ℕ) → IsStrip s h i y count columns
-    → d ≡ depth_of h.maximum → IsTextureIfTold told h → IfSome told (λ b. rows ≡ rows_of h b y count)
+pub strip_made : (known : Option (List ℕ)) (s : Shape) (h : Header) (i y count columns d : ℕ) (rows tiles : List ℕ) → IsStrip s h i y count columns
+    → d ≡ depth_of h.maximum → IsTextureIfKnown known h → IfSome known (λ b. rows ≡ sample_rows h b y count)
     → ((src : Source) → HasTileRows s d src (i * columns) rows → tiles ≡ tiles_bytes s d src (i * columns) columns)
-    → (b : List ℕ) → told ≡ Some b → tiles ≡ strip_tiles s h i b
-strip_made told s h i y count columns d rows tiles is ed texture read made b e =
-    let has = strip_rows_are s h i y count columns b rows is (texture.each b e) (if_told told (λ b. rows ≡ rows_of h b y count) b e read) in
+    → (b : List ℕ) → known ≡ Some b → tiles ≡ strip_tiles s h i b
+strip_made known s h i y count columns d rows tiles is ed texture read made b e =
+    let has = strip_rows_are s h i y count columns b rows is (texture.each b e) (if_known known (λ b. rows ≡ sample_rows h b y count) b e read) in
     made (texture_texel h b) (subst (λ (n : ℕ). HasTileRows s n (texture_texel h b) (i * columns) rows) (sym ed) has)
     ∙ ap (λ (n : ℕ). tiles_bytes s n (texture_texel h b) (i * columns) columns) ed
     ∙ ap (λ (n : ℕ). tiles_bytes s (depth_of h.maximum) (texture_texel h b) (i * n) n) is.across
 
 -- and the rows are the next ones that are halved
-pub strip_piece : (told : Option (List ℕ)) (s : Shape) (h : Header) (i y count columns taken : ℕ) (rows : List ℕ) → IsStrip s h i y count columns
-    → taken ≡ i * s.tile → IsTextureIfTold told h → IfSome told (λ b. rows ≡ rows_of h b y count)
-    → (b : List ℕ) → told ≡ Some b
+pub strip_piece : (known : Option (List ℕ)) (s : Shape) (h : Header) (i y count columns taken : ℕ) (rows : List ℕ) → IsStrip s h i y count columns
+    → taken ≡ i * s.tile → IsTextureIfKnown known h → IfSome known (λ b. rows ≡ sample_rows h b y count)
+    → (b : List ℕ) → known ≡ Some b
     → IsPiece (texture_of h b).samples (texel_length (depth_of h.maximum) * (h.width * taken)) rows
-strip_piece told s h i y count columns taken rows is et texture read b e =
-    let row = if_told told (λ b. rows ≡ rows_of h b y count) b e read in
+strip_piece known s h i y count columns taken rows is et texture read b e =
+    let row = if_known known (λ b. rows ≡ sample_rows h b y count) b e read in
     let samples : List ℕ = (texture_of h b).samples in
     let z : ℕ = row_length h in
     let at : y * z ≡ texel_length (depth_of h.maximum) * (h.width * taken) =

@@ -10,24 +10,24 @@ use Rattle.std.specs.Result.{IsErrAnd}
 use Rattle.vt_outside.specs.Counts.{Rose}
 use Rattle.vt_outside.specs.Files.{Files, IsPiece, IsThere, noted, with_bytes, with_appended}
 use Rattle.vt_outside.specs.declared.place.Place.{Place}
-use Rattle.vt_outside.proofs.Changes.{told-bytes-appended, front_of_two, front_of_first}
+use Rattle.vt_outside.proofs.Changes.{known-bytes-appended, front_of_two, front_of_first}
 use Rattle.vt_pages.specs.Shape.{Shape}
 use Rattle.vt_pages.specs.Pages.{IsWithinLimits, pages_of, columns_at}
 use Rattle.vt_pages.proofs.Counts.{lt_up}
 use Rattle.vt_tiles.specs.declared.error.StoreError.{StoreError}
 use Rattle.vt_tiles.specs.Format.{header_bytes, tile_start, tile_length, tiles_bytes, store_bytes, stored}
 use Rattle.vt_tiles.specs.Places.{TilesAsked, piece_tiles, pieces_of, piece_count, piece_place, piece_places, PiecesAsked, FrontAsked}
-use Rattle.vt_tiles.specs.StoreViews.{IsStore, IsStoreIfTold}
+use Rattle.vt_tiles.specs.StoreViews.{IsStore, IsStoreIfKnown}
 use Rattle.vt_store.specs.Widening.{HoldsWidened, HoldsFront, GainsTiles, GainsFront, widened}
 use Rattle.vt_store.proofs.Writing.{front_bytes, front_grown, front_none, front_all, store_split}
 
--- the tiles that were made of those that were read, where the store's bytes are told
-pub told_tiles : (told told' : Option (List ℕ)) (s s' g : Shape) (d d' first count : ℕ) (narrow wide : List ℕ)
-    → told' ≡ told → s' ≡ s → g ≡ s' → d' ≡ d → d ≡ 1 → IsStoreIfTold told' s' d'
-    → IfSome told (λ b. IsPiece b (tile_start s d first) narrow)
+-- the tiles that were made of those that were read, where the store's bytes are known
+pub known_tiles : (known known' : Option (List ℕ)) (s s' g : Shape) (d d' first count : ℕ) (narrow wide : List ℕ)
+    → known' ≡ known → s' ≡ s → g ≡ s' → d' ≡ d → d ≡ 1 → IsStoreIfKnown known' s' d'
+    → IfSome known (λ b. IsPiece b (tile_start s d first) narrow)
     → ((b : List ℕ) → IsStore b g 1 → IsPiece b (tile_start g 1 first) narrow → wide ≡ tiles_bytes g 2 (widened (stored b)) first count)
-    → (b : List ℕ) → told ≡ Some b → wide ≡ tiles_bytes s 2 (widened (stored b)) first count
-told_tiles told told' s s' g d d' first count narrow wide same es eg ed one store piece all b e =
+    → (b : List ℕ) → known ≡ Some b → wide ≡ tiles_bytes s 2 (widened (stored b)) first count
+known_tiles known known' s s' g d d' first count narrow wide same es eg ed one store piece all b e =
     let there : IsStore b s' d' = store.each b (same ∙ e) in
     let here : IsStore b g d' = subst (λ (z : Shape). IsStore b z d') (sym eg) there in
     let is : IsStore b g 1 = subst (λ (n : ℕ). IsStore b g n) (ed ∙ one) here in
@@ -37,29 +37,29 @@ told_tiles told told' s s' g d d' first count narrow wide same es eg ed one stor
     let at_one : IsPiece b (tile_start g 1 first) narrow = subst (λ (n : ℕ). IsPiece b (tile_start g n first) narrow) one moved in
     all b is at_one ∙ ap (λ z. tiles_bytes z 2 (widened (stored b)) first count) (eg ∙ es)
 
--- the name holds the widened store as far as the tiles of so many pages, where the old store's bytes are told
-pub record HoldsPages (told : Option (List ℕ)) (s : Shape) (name : List ℕ) (before after : Option Files) (pages : ℕ) : Type 0 where
+-- the name holds the widened store as far as the tiles of so many pages, where the old store's bytes are known
+pub record HoldsPages (known : Option (List ℕ)) (s : Shape) (name : List ℕ) (before after : Option Files) (pages : ℕ) : Type 0 where
   pub written : List ℕ
   pub held : after ≡ option_map (with_bytes name written) before
-  pub same : (b : List ℕ) → told ≡ Some b → written ≡ front_bytes s 2 (widened (stored b)) pages
+  pub same : (b : List ℕ) → known ≡ Some b → written ≡ front_bytes s 2 (widened (stored b)) pages
 
-pub pages_moved : (told : Option (List ℕ)) (s : Shape) (n : List ℕ) (f0 f1 : Option Files) (p q : ℕ) → p ≡ q
-    → HoldsPages told s n f0 f1 p → HoldsPages told s n f0 f1 q
-pages_moved told s n f0 f1 p q e done = subst (HoldsPages told s n f0 f1) e done
+pub pages_moved : (known : Option (List ℕ)) (s : Shape) (n : List ℕ) (f0 f1 : Option Files) (p q : ℕ) → p ≡ q
+    → HoldsPages known s n f0 f1 p → HoldsPages known s n f0 f1 q
+pages_moved known s n f0 f1 p q e done = subst (HoldsPages known s n f0 f1) e done
 
-pub begun_pages : (told : Option (List ℕ)) (s g : Shape) (n : List ℕ) (f0 f1 : Option Files) → g ≡ s
-    → f1 ≡ option_map (with_bytes n (header_bytes g 2)) f0 → HoldsPages told s n f0 f1 0
-begun_pages told s g n f0 f1 eg held = record {
+pub begun_pages : (known : Option (List ℕ)) (s g : Shape) (n : List ℕ) (f0 f1 : Option Files) → g ≡ s
+    → f1 ≡ option_map (with_bytes n (header_bytes g 2)) f0 → HoldsPages known s n f0 f1 0
+begun_pages known s g n f0 f1 eg held = record {
   written = header_bytes s 2;
   held = held ∙ ap (λ z. option_map (with_bytes n (header_bytes z 2)) f0) eg;
   same = λ b e. front_none s 2 (widened (stored b));
 }
 
-pub next_pages : (told : Option (List ℕ)) (s : Shape) (n : List ℕ) (f0 f1 f2 : Option Files) (p count q : ℕ) → HoldsPages told s n f0 f1 p
-    → GainsTiles told s p count n f1 f2 → q ≡ p + count → HoldsPages told s n f0 f2 q
-next_pages told s n f0 f1 f2 p count q done gained e = record {
+pub next_pages : (known : Option (List ℕ)) (s : Shape) (n : List ℕ) (f0 f1 f2 : Option Files) (p count q : ℕ) → HoldsPages known s n f0 f1 p
+    → GainsTiles known s p count n f1 f2 → q ≡ p + count → HoldsPages known s n f0 f2 q
+next_pages known s n f0 f1 f2 p count q done gained e = record {
   written = done.written ++ gained.tiles;
-  held = gained.held ∙ ap (option_map (with_appended n gained.tiles)) done.held ∙ told-bytes-appended n done.written gained.tiles f0;
+  held = gained.held ∙ ap (option_map (with_appended n gained.tiles)) done.held ∙ known-bytes-appended n done.written gained.tiles f0;
   same = λ b t.
       let src = widened (stored b) in
       let more : count ≡ q - p = omega arith in
@@ -67,17 +67,17 @@ next_pages told s n f0 f1 f2 p count q done gained e = record {
       ∙ ap (λ m. front_bytes s 2 src p ++ tiles_bytes s 2 src p m) more ∙ front_grown s 2 src p q (omega arith);
 }
 
-pub all_pages : (told : Option (List ℕ)) (s : Shape) (n : List ℕ) (f0 f1 : Option Files) (p : ℕ) → p ≡ pages_of s
-    → HoldsPages told s n f0 f1 p → HoldsWidened told s n f0 f1
-all_pages told s n f0 f1 p e done = record {
+pub all_pages : (known : Option (List ℕ)) (s : Shape) (n : List ℕ) (f0 f1 : Option Files) (p : ℕ) → p ≡ pages_of s
+    → HoldsPages known s n f0 f1 p → HoldsWidened known s n f0 f1
+all_pages known s n f0 f1 p e done = record {
   written = done.written;
   held = done.held;
   same = λ b t. done.same b t ∙ ap (front_bytes s 2 (widened (stored b))) e ∙ front_all s 2 (widened (stored b));
 }
 
-pub kept_pages : (told : Option (List ℕ)) (s : Shape) (n : List ℕ) (f0 f1 f2 : Option Files) (p : ℕ) → p ≤ pages_of s
-    → HoldsPages told s n f0 f1 p → f2 ≡ f1 → HoldsFront told s n f0 f2
-kept_pages told s n f0 f1 f2 p h done same = record {
+pub kept_pages : (known : Option (List ℕ)) (s : Shape) (n : List ℕ) (f0 f1 f2 : Option Files) (p : ℕ) → p ≤ pages_of s
+    → HoldsPages known s n f0 f1 p → f2 ≡ f1 → HoldsFront known s n f0 f2
+kept_pages known s n f0 f1 f2 p h done same = record {
   written = done.written;
   held = same ∙ done.held;
   part = λ b t.
@@ -88,12 +88,12 @@ kept_pages told s n f0 f1 f2 p h done same = record {
       );
 }
 
-pub part_pages : (told : Option (List ℕ)) (s : Shape) (n : List ℕ) (f0 f1 f2 : Option Files) (p count : ℕ) → p + count ≤ pages_of s
-    → HoldsPages told s n f0 f1 p → GainsFront told s p count n f1 f2 → HoldsFront told s n f0 f2
-part_pages told s n f0 f1 f2 p count h done gained = record {
+pub part_pages : (known : Option (List ℕ)) (s : Shape) (n : List ℕ) (f0 f1 f2 : Option Files) (p count : ℕ) → p + count ≤ pages_of s
+    → HoldsPages known s n f0 f1 p → GainsFront known s p count n f1 f2 → HoldsFront known s n f0 f2
+part_pages known s n f0 f1 f2 p count h done gained = record {
   written = done.written ++ take gained.part gained.tiles;
   held = gained.held ∙ ap (option_map (with_appended n (take gained.part gained.tiles))) done.held
-      ∙ told-bytes-appended n done.written (take gained.part gained.tiles) f0;
+      ∙ known-bytes-appended n done.written (take gained.part gained.tiles) f0;
   part = λ b t.
       let src = widened (stored b) in
       let q : ℕ = p + count in
@@ -111,28 +111,28 @@ part_pages told s n f0 f1 f2 p count h done gained = record {
 }
 
 -- a piece that was not added, or a part of it that was
-pub piece_part : (told told' : Option (List ℕ)) (s s' : Shape) (n : List ℕ) (f0 f1 f2 : Option Files) (p count first : ℕ) → p + count ≤ pages_of s
-    → told' ≡ told → s' ≡ s → first ≡ p → HoldsPages told s n f0 f1 p → (f2 ≡ f1) ⊎ GainsFront told' s' first count n f1 f2
-    → HoldsFront told s n f0 f2
-piece_part told told' s s' n f0 f1 f2 p count first h et es ef done (inl same) = kept_pages told s n f0 f1 f2 p (omega arith) done same
-piece_part told told' s s' n f0 f1 f2 p count first h et es ef done (inr part) =
-    part_pages told s n f0 f1 f2 p count h done
-    (subst (λ (m : ℕ). GainsFront told s m count n f1 f2) ef (subst (λ (z : Shape). GainsFront told z first count n f1 f2) es
+pub piece_part : (known known' : Option (List ℕ)) (s s' : Shape) (n : List ℕ) (f0 f1 f2 : Option Files) (p count first : ℕ) → p + count ≤ pages_of s
+    → known' ≡ known → s' ≡ s → first ≡ p → HoldsPages known s n f0 f1 p → (f2 ≡ f1) ⊎ GainsFront known' s' first count n f1 f2
+    → HoldsFront known s n f0 f2
+piece_part known known' s s' n f0 f1 f2 p count first h et es ef done (inl same) = kept_pages known s n f0 f1 f2 p (omega arith) done same
+piece_part known known' s s' n f0 f1 f2 p count first h et es ef done (inr part) =
+    part_pages known s n f0 f1 f2 p count h done
+    (subst (λ (m : ℕ). GainsFront known s m count n f1 f2) ef (subst (λ (z : Shape). GainsFront known z first count n f1 f2) es
     (subst (λ (t : Option (List ℕ)). GainsFront t s' first count n f1 f2) et part)))
 
-pub piece_whole : (told told' : Option (List ℕ)) (s s' : Shape) (n : List ℕ) (f0 f1 f2 : Option Files) (p count first q : ℕ)
-    → told' ≡ told → s' ≡ s → first ≡ p → HoldsPages told s n f0 f1 p → GainsTiles told' s' first count n f1 f2 → q ≡ p + count
-    → HoldsPages told s n f0 f2 q
-piece_whole told told' s s' n f0 f1 f2 p count first q et es ef done gained e =
-    next_pages told s n f0 f1 f2 p count q done
-    (subst (λ (m : ℕ). GainsTiles told s m count n f1 f2) ef (subst (λ (z : Shape). GainsTiles told z first count n f1 f2) es
+pub piece_whole : (known known' : Option (List ℕ)) (s s' : Shape) (n : List ℕ) (f0 f1 f2 : Option Files) (p count first q : ℕ)
+    → known' ≡ known → s' ≡ s → first ≡ p → HoldsPages known s n f0 f1 p → GainsTiles known' s' first count n f1 f2 → q ≡ p + count
+    → HoldsPages known s n f0 f2 q
+piece_whole known known' s s' n f0 f1 f2 p count first q et es ef done gained e =
+    next_pages known s n f0 f1 f2 p count q done
+    (subst (λ (m : ℕ). GainsTiles known s m count n f1 f2) ef (subst (λ (z : Shape). GainsTiles known z first count n f1 f2) es
     (subst (λ (t : Option (List ℕ)). GainsTiles t s' first count n f1 f2) et gained))) e
 
-pub header_front : (told : Option (List ℕ)) (s g : Shape) (n : List ℕ) (f0 f1 : Option Files) → g ≡ s
-    → (f1 ≡ f0) ⊎ ((k : ℕ) × (f1 ≡ option_map (with_bytes n (take k (header_bytes g 2))) f0)) → (f1 ≡ f0) ⊎ HoldsFront told s n f0 f1
+pub header_front : (known : Option (List ℕ)) (s g : Shape) (n : List ℕ) (f0 f1 : Option Files) → g ≡ s
+    → (f1 ≡ f0) ⊎ ((k : ℕ) × (f1 ≡ option_map (with_bytes n (take k (header_bytes g 2))) f0)) → (f1 ≡ f0) ⊎ HoldsFront known s n f0 f1
 unfolding store_bytes
-header_front told s g n f0 f1 eg (inl same) = inl same
-header_front told s g n f0 f1 eg (inr part) = inr (record {
+header_front known s g n f0 f1 eg (inl same) = inl same
+header_front known s g n f0 f1 eg (inr part) = inr (record {
   written = take part.0 (header_bytes s 2);
   held = part.1 ∙ ap (λ z. option_map (with_bytes n (take part.0 (header_bytes z 2))) f0) eg;
   part = λ b t. front_of_first (header_bytes s 2) (tiles_bytes s 2 (widened (stored b)) 0 (pages_of s)) part.0;
@@ -142,8 +142,8 @@ pub named : (n : List ℕ) → bytes_eq n n ≡ true
 named n = (bytes_eq-Decides n n).1 refl
 
 -- a name that holds bytes is there
-pub there : (told : Option (List ℕ)) (s : Shape) (n : List ℕ) (f0 f1 : Option Files) (p : ℕ) → HoldsPages told s n f0 f1 p → IsThere f1 n
-there told s n f0 f1 p done = subst (λ (f : Option Files). IsThere f n) (sym done.held) (held f0 done.written) where
+pub there : (known : Option (List ℕ)) (s : Shape) (n : List ℕ) (f0 f1 : Option Files) (p : ℕ) → HoldsPages known s n f0 f1 p → IsThere f1 n
+there known s n f0 f1 p done = subst (λ (f : Option Files). IsThere f n) (sym done.held) (held f0 done.written) where
   held : (f : Option Files) (w : List ℕ) → IsThere (option_map (with_bytes n w) f) n
   held None w = tt
   held (Some f) w = rw (named n) refl

@@ -5,7 +5,7 @@ use Rattle.std.proofs.Math.Seq.{take-append_seam}
 use Rattle.std.specs.Prelude.{option_map, flat_map}
 use Rattle.std.specs.List.{range_with_len}
 use Rattle.vt_outside.specs.Files.{Files, with_bytes, with_appended}
-use Rattle.vt_outside.proofs.Changes.{told-bytes-appended, front_of_two, front_of_first}
+use Rattle.vt_outside.proofs.Changes.{known-bytes-appended, front_of_two, front_of_first}
 use Rattle.vt_definitions.specs.Texels.{Source}
 use Rattle.vt_pages.specs.Shape.{Shape}
 use Rattle.vt_pages.specs.Pages.{pages_of}
@@ -59,7 +59,7 @@ pub longer_part : (f0 f1 f2 : Option Files) (n whole done more rest : List ℕ) 
 longer_part f0 f1 f2 n whole done more rest k split held added =
     let front = front_of_first (done ++ more) rest (length done + k) in (
       front.0,
-      added ∙ ap (option_map (with_appended n (take k more))) held ∙ told-bytes-appended n done (take k more) f0
+      added ∙ ap (option_map (with_appended n (take k more))) held ∙ known-bytes-appended n done (take k more) f0
           ∙ ap (λ l. option_map (with_bytes n l) f0) (front_of_two done more k ∙ front.1 ∙ ap (take front.0) (sym split)),
     )
 

@@ -34,7 +34,7 @@ pub record HasLevelTexels (src : Source) (k : ℕ) (p : ImageView) : Type 0 wher
   pub each : (x y : ℕ) → x < p.width → y < p.height → src k x y ≡ texel_of p x y
 
 -- they are those of an image of which some rows were taken
-pub record IsLevelOf (src : Source) (k : ℕ) (p : ImageView) (v : HalvingView) : Type 0 where
+pub record IsHalvedLevelOf (src : Source) (k : ℕ) (p : ImageView) (v : HalvingView) : Type 0 where
   pub texels : HasLevelTexels src k p
   pub front : ShrinksFront p v
   pub lawful : IsLawfulImage p

@@ -20,9 +20,9 @@ pub record AddsFront (name bytes : List ℕ) (before after : Option Files) (faul
   pub rose : e ≡ outside_error.Failed → IsThere before name → Rose faults_before faults_after
 
 -- the bytes were added to the name, or a prefix of them
-abbrev pub Adds : {T : Type 0} → List ℕ → List ℕ → Option Files → Option Files → ℕ → ℕ → Result T OutsideError → Type 0
-Adds name bytes before after faults_before faults_after (Ok _) = after ≡ option_map (with_appended name bytes) before
-Adds name bytes before after faults_before faults_after (Err e) = AddsFront name bytes before after faults_before faults_after e
+abbrev pub AddsBytes : {T : Type 0} → List ℕ → List ℕ → Option Files → Option Files → ℕ → ℕ → Result T OutsideError → Type 0
+AddsBytes name bytes before after faults_before faults_after (Ok _) = after ≡ option_map (with_appended name bytes) before
+AddsBytes name bytes before after faults_before faults_after (Err e) = AddsFront name bytes before after faults_before faults_after e
 
 -- the bytes were added, and the next ones made
 pub record StepDone (next : Type 0) (name bytes : List ℕ) (before after : Option Files) : Type 0 where

@@ -8,7 +8,7 @@ use Rattle.vt_ppm.specs.declared.header.Header.{Header}
 use Rattle.vt_ppm.specs.Format.{depth_of}
 use Rattle.vt_ppm.specs.StripPlaces.{strip_rows, strips_of, StripsAsked, StripsTried}
 use Rattle.vt_ppm.specs.Image.{ImageView}
-use Rattle.vt_ppm.specs.Strips.{IsTextureIfTold, RowsAsked, rows_of, texture_of}
+use Rattle.vt_ppm.specs.Strips.{IsTextureIfKnown, RowsAsked, sample_rows, texture_of}
 use Rattle.vt_mip.specs.StripChains.{StripChainView}
 use Rattle.vt_mip.specs.TakenRows.{HalvingView, HalvesFront}
 use Rattle.vt_pages.specs.Shape.{Shape, shape_of}
@@ -21,10 +21,10 @@ use Rattle.vt_store.specs.ChainStores.{texture_store}
 use Rattle.vt_store.specs.Steps.{Makes, Steps}
 use Rattle.vt_store.specs.StripStores.{strip_front, strip_tiles}
 
--- a texture that is read by strips: its file's bytes and places, where they are told, its name and its counts; its header and tile side; and
+-- a texture that is read by strips: its file's bytes and places, where they are known, its name and its counts; its header and tile side; and
 -- level 1 as far as it is made
 pub record StripsState : Type 0 where
-  pub told : Option (List ℕ)
+  pub known : Option (List ℕ)
   pub places : Option (List Place)
   pub called : List ℕ
   pub spare : ℕ
@@ -35,7 +35,7 @@ pub record StripsState : Type 0 where
 
 abbrev pub strips_state : {F : Type 0} → FileMeanings F → StripChainView F → HalvingView → StripsState
 strips_state g chain half = record {
-  told = g.bytes chain.file;
+  known = g.bytes chain.file;
   places = g.asked chain.file;
   called = g.name chain.file;
   spare = g.spare chain.file;
@@ -47,7 +47,7 @@ strips_state g chain half = record {
 
 -- the file, the header and the tile side are as before, and no count of faults fell
 pub record KeepsStrips (before after : StripsState) : Type 0 where
-  pub told : after.told ≡ before.told
+  pub known : after.known ≡ before.known
   pub called : after.called ≡ before.called
   pub header : after.header ≡ before.header
   pub tile : after.tile ≡ before.tile
@@ -79,8 +79,8 @@ pub record IsStripThere (s : Shape) (i : ℕ) (a : StripsState) : Type 0 where
 -- strip i was read into a room, and level 1 stands as before
 pub record StripRead (s : Shape) (i : ℕ) (before after : StripsState) (room : List ℕ) : Type 0 where
   pub read : StripAsked s i false before after
-  pub texture : IsTextureIfTold before.told before.header
-  pub rows : IfSome before.told (λ b. room ≡ rows_of before.header b (i * s.tile) (strip_rows before.header s.tile i))
+  pub texture : IsTextureIfKnown before.known before.header
+  pub rows : IfSome before.known (λ b. room ≡ sample_rows before.header b (i * s.tile) (strip_rows before.header s.tile i))
   pub halves : (p : ImageView) → HalvesFront p before.half → HalvesFront p after.half
   pub taken : after.half.taken ≡ before.half.taken
   pub depth : after.half.depth ≡ before.half.depth
@@ -90,8 +90,8 @@ pub record StripRead (s : Shape) (i : ℕ) (before after : StripsState) (room : 
 -- strip i was read, its rows were halved into level 1, and its tiles were made
 pub record StripMade (s : Shape) (i : ℕ) (before after : StripsState) (row : List ℕ) : Type 0 where
   pub read : StripAsked s i false before after
-  pub tiles : (b : List ℕ) → before.told ≡ Some b → row ≡ strip_tiles s before.header i b
-  pub halves : (b : List ℕ) → before.told ≡ Some b → HalvesFront (texture_of before.header b) before.half
+  pub tiles : (b : List ℕ) → before.known ≡ Some b → row ≡ strip_tiles s before.header i b
+  pub halves : (b : List ℕ) → before.known ≡ Some b → HalvesFront (texture_of before.header b) before.half
       → HalvesFront (texture_of before.header b) after.half
   pub taken : after.half.taken ≡ before.half.taken + strip_rows before.header s.tile i
   pub depth : after.half.depth ≡ before.half.depth
@@ -128,10 +128,10 @@ state_store a b = texture_store (texture_of a.header b) a.tile
 
 -- the tiles of all strips were added to the name behind the store's header, and level 1 is made
 pub record StripsDone (s : Shape) (name : List ℕ) (a b : StripsState) (f g : Option Files) : Type 0 where
-  pub whole : (before : Option Files) → HoldsMade a.told (strip_front s a.header 0) name before f
-      → HoldsMade a.told (strip_front s a.header (rows_at s 0 * columns_at s 0)) name before g
+  pub whole : (before : Option Files) → HoldsMade a.known (strip_front s a.header 0) name before f
+      → HoldsMade a.known (strip_front s a.header (rows_at s 0 * columns_at s 0)) name before g
   pub all_read : StripsAsked a.header s.tile (strips_of a.header s.tile) a.places b.places
-  pub halves : (bytes : List ℕ) → a.told ≡ Some bytes → HalvesFront (texture_of a.header bytes) a.half → HalvesFront (texture_of a.header bytes) b.half
+  pub halves : (bytes : List ℕ) → a.known ≡ Some bytes → HalvesFront (texture_of a.header bytes) a.half → HalvesFront (texture_of a.header bytes) b.half
   pub all_taken : b.half.taken ≡ a.half.height
   pub half_depth : b.half.depth ≡ a.half.depth
   pub half_width : b.half.width ≡ a.half.width
@@ -139,10 +139,10 @@ pub record StripsDone (s : Shape) (name : List ℕ) (a b : StripsState) (f g : O
 
 -- the name holds a prefix of the store, and a prefix of the strips was read
 pub record StripsStopped (s : Shape) (name : List ℕ) (a b : StripsState) (f g : Option Files) (m n : ℕ) (e : StoreError) : Type 0 where
-  pub part : (before : Option Files) → HoldsMade a.told (strip_front s a.header 0) name before f
-      → HoldsMadeFront a.told (state_store a) name before g
+  pub part : (before : Option Files) → HoldsMade a.known (strip_front s a.header 0) name before f
+      → HoldsMadeFront a.known (state_store a) name before g
   pub front_read : StripsTried a.header s.tile a.places b.places
-  pub failed : e ≡ Failed → (before : Option Files) → HoldsMade a.told (strip_front s a.header 0) name before f
+  pub failed : e ≡ Failed → (before : Option Files) → HoldsMade a.known (strip_front s a.header 0) name before f
       → Rose m n ⊎ Rose a.faults b.faults
   pub outside : IsOutsideRefusal e
 

@@ -23,30 +23,30 @@ widened src k x y = widened_word (src k x y)
 abbrev pub widened_store : Shape → List ℕ → List ℕ
 widened_store s b = store_bytes s 2 (widened (stored b))
 
--- the name holds the widened store, where the bytes of the old one are told, and every other name what it held
-pub record HoldsWidened (told : Option (List ℕ)) (s : Shape) (name : List ℕ) (before after : Option Files) : Type 0 where
+-- the name holds the widened store, where the bytes of the old one are known, and every other name what it held
+pub record HoldsWidened (known : Option (List ℕ)) (s : Shape) (name : List ℕ) (before after : Option Files) : Type 0 where
   pub written : List ℕ
   pub held : after ≡ option_map (with_bytes name written) before
-  pub same : (b : List ℕ) → told ≡ Some b → written ≡ widened_store s b
+  pub same : (b : List ℕ) → known ≡ Some b → written ≡ widened_store s b
 
 -- the name holds a prefix of it
-pub record HoldsFront (told : Option (List ℕ)) (s : Shape) (name : List ℕ) (before after : Option Files) : Type 0 where
+pub record HoldsFront (known : Option (List ℕ)) (s : Shape) (name : List ℕ) (before after : Option Files) : Type 0 where
   pub written : List ℕ
   pub held : after ≡ option_map (with_bytes name written) before
-  pub part : (b : List ℕ) → told ≡ Some b → (k : ℕ) × (written ≡ take k (widened_store s b))
+  pub part : (b : List ℕ) → known ≡ Some b → (k : ℕ) × (written ≡ take k (widened_store s b))
 
 -- the name gained the widened tiles of so many pages from one on
-pub record GainsTiles (told : Option (List ℕ)) (s : Shape) (first count : ℕ) (name : List ℕ) (before after : Option Files) : Type 0 where
+pub record GainsTiles (known : Option (List ℕ)) (s : Shape) (first count : ℕ) (name : List ℕ) (before after : Option Files) : Type 0 where
   pub tiles : List ℕ
   pub held : after ≡ option_map (with_appended name tiles) before
-  pub same : (b : List ℕ) → told ≡ Some b → tiles ≡ tiles_bytes s 2 (widened (stored b)) first count
+  pub same : (b : List ℕ) → known ≡ Some b → tiles ≡ tiles_bytes s 2 (widened (stored b)) first count
 
 -- the name gained a prefix of them
-pub record GainsFront (told : Option (List ℕ)) (s : Shape) (first count : ℕ) (name : List ℕ) (before after : Option Files) : Type 0 where
+pub record GainsFront (known : Option (List ℕ)) (s : Shape) (first count : ℕ) (name : List ℕ) (before after : Option Files) : Type 0 where
   pub tiles : List ℕ
   pub part : ℕ
   pub held : after ≡ option_map (with_appended name (take part tiles)) before
-  pub same : (b : List ℕ) → told ≡ Some b → tiles ≡ tiles_bytes s 2 (widened (stored b)) first count
+  pub same : (b : List ℕ) → known ≡ Some b → tiles ≡ tiles_bytes s 2 (widened (stored b)) first count
 
 -- each byte twice, which is each byte times 257 as two bytes
 abbrev pub doubled : List ℕ → List ℕ

@@ -9,7 +9,7 @@ ghost use Rattle.vt_ppm.specs.Image.{ImageView, IsLawfulImage};
 ghost use Rattle.vt_mip.specs.Halves.{IsHalf};
 ghost use Rattle.vt_mip.specs.InPlace.{ShrinksFront};
 ghost use Rattle.vt_pages.specs.Pages.{pages_of, pages_below, levels_of, columns_at, rows_at, index_at};
-ghost use Rattle.vt_store.specs.ChainStores.{AddsPages, AddsPart, HasLevelTexels, IsLevelOf, level_source};
+ghost use Rattle.vt_store.specs.ChainStores.{AddsPages, AddsPart, HasLevelTexels, IsHalvedLevelOf, level_source};
 ghost use Rattle.vt_tiles.specs.Format.{tile_length, tiles_bytes};
 
 use crate::write::{put_tiles, size_inside, threads_for_row, tile_columns};
@@ -88,10 +88,10 @@ fn write_row<Rt: Threads, D: Folder>(
     requires height { texels.old.height ≡ side geometry.now.height level }
     requires room { length tiles.old ≡ columns_at geometry.now level * tile_length geometry.now texels.old.depth }
     requires taken { texels.old.taken ≡ strip * geometry.now.tile }
-    ensures whole { OnOk result ((p : ImageView) (src : Source) → IsLevelOf src level p texels.old → D.files folder.new
+    ensures whole { OnOk result ((p : ImageView) (src : Source) → IsHalvedLevelOf src level p texels.old → D.files folder.new
         ≡ option_map (with_appended name.now (tiles_bytes geometry.now p.depth src (index_at geometry.now level 0 strip)
         (columns_at geometry.now level))) (D.files folder.old)) }
-    ensures part { OnErr result ((p : ImageView) (src : Source) → IsLevelOf src level p texels.old → (k : ℕ) × (D.files folder.new
+    ensures part { OnErr result ((p : ImageView) (src : Source) → IsHalvedLevelOf src level p texels.old → (k : ℕ) × (D.files folder.new
         ≡ option_map (with_appended name.now (take k (tiles_bytes geometry.now p.depth src (index_at geometry.now level 0 strip)
         (columns_at geometry.now level)))) (D.files folder.old))) }
     ensures halves { (p : ImageView) → ShrinksFront p texels.old → ShrinksFront p texels.new }

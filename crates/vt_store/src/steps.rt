@@ -7,7 +7,7 @@ ghost use Rattle.vt_ppm.specs.StripPlaces.{strip_rows};
 ghost use Rattle.vt_ppm.specs.Strips.{row_length};
 ghost use Rattle.vt_pages.specs.Pages.{columns_at};
 ghost use Rattle.vt_tiles.specs.Format.{tile_length};
-ghost use Rattle.vt_store.specs.Steps.{Adds};
+ghost use Rattle.vt_store.specs.Steps.{AddsBytes};
 ghost use Rattle.vt_store.specs.StripSteps.{IsNextStrip, KeepsStrips, ReadsStrip, StripStep, strips_state};
 
 use crate::strip::{finish_strip, make_strip, read_strip, strip_size};
@@ -42,7 +42,7 @@ pub(crate) fn add_row<D: Folder>(
     name: &str,
     tiles: &[u8],
 ) -> Result<(), OutsideError>
-    ensures added { Adds name.now tiles.now (D.files folder.old) (D.files folder.new) (D.faults folder.old) (D.faults folder.new) result }
+    ensures added { AddsBytes name.now tiles.now (D.files folder.old) (D.files folder.new) (D.faults folder.old) (D.faults folder.new) result }
     ensures asked { D.asked folder.new ≡ D.asked folder.old }
     ensures faults { D.faults folder.old ≤ D.faults folder.new }
 {
@@ -95,7 +95,7 @@ fn add_and_read<Rt: Threads + Sync, F: File + Send, D: Folder>(
     ensures read { ReadsStrip geometry.now strip (strips_state F.File chain.old half.old) (strips_state F.File chain.new half.new) rows.new result.0 }
     ensures kept { KeepsStrips (strips_state F.File chain.old half.old) (strips_state F.File chain.new half.new) }
     ensures spare { F.spare chain.old.file ≤ F.spare chain.new.file + 1 }
-    ensures added { Adds name.now tiles.now (D.files folder.old) (D.files folder.new) (D.faults folder.old) (D.faults folder.new) result.1 }
+    ensures added { AddsBytes name.now tiles.now (D.files folder.old) (D.files folder.new) (D.faults folder.old) (D.faults folder.new) result.1 }
     ensures asked { D.asked folder.new ≡ D.asked folder.old }
     ensures faults { D.faults folder.old ≤ D.faults folder.new }
 {
@@ -110,7 +110,7 @@ fn add_and_read<Rt: Threads + Sync, F: File + Send, D: Folder>(
                 × (F.spare chain.entry.now.file ≤ F.spare chain.exit.now.file + 1) }
         { read_strip(rt, threads, chain, geometry, strip, rows, half) },
         &mut || -> Result<(), OutsideError>
-            ensures { Adds name.entry.now tiles.entry.now (D.files folder.entry.now) (D.files folder.exit.now) (D.faults folder.entry.now)
+            ensures { AddsBytes name.entry.now tiles.entry.now (D.files folder.entry.now) (D.files folder.exit.now) (D.faults folder.entry.now)
                 (D.faults folder.exit.now) result
                 × (D.asked folder.exit.now ≡ D.asked folder.entry.now) × (D.faults folder.entry.now ≤ D.faults folder.exit.now) }
         { add_row(folder, name, tiles) },

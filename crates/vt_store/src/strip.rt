@@ -8,7 +8,7 @@ ghost use Rattle.vt_outside.specs.Files.{IsPiece};
 ghost use Rattle.vt_ppm.specs.Format.{depth_of};
 ghost use Rattle.vt_ppm.specs.StripPlaces.{strip_rows};
 ghost use Rattle.vt_ppm.specs.Image.{ImageView};
-ghost use Rattle.vt_ppm.specs.Strips.{row_length, rows_of, IsTextureIfTold, RowsAsked};
+ghost use Rattle.vt_ppm.specs.Strips.{row_length, sample_rows, IsTextureIfKnown, RowsAsked};
 ghost use Rattle.vt_mip.specs.TakenRows.{HalvesFront};
 ghost use Rattle.vt_pages.specs.Shape.{shape_of};
 ghost use Rattle.vt_pages.specs.Pages.{columns_at, name_at, pages_of, rows_at};
@@ -97,8 +97,8 @@ fn read_rows<Rt: Threads + Sync, F: File>(
     requires inside { y + count ≤ chain.old.header.height }
     requires size { length rows.old ≡ count * row_length chain.old.header }
     requires room { half.old.taken + count ≤ half.old.height }
-    ensures rows { OnOk result (IfSome (F.bytes chain.old.file) (λ b. rows.new ≡ rows_of chain.old.header b y count)) }
-    ensures texture { IsTextureIfTold (F.bytes chain.old.file) chain.old.header }
+    ensures rows { OnOk result (IfSome (F.bytes chain.old.file) (λ b. rows.new ≡ sample_rows chain.old.header b y count)) }
+    ensures texture { IsTextureIfKnown (F.bytes chain.old.file) chain.old.header }
     ensures failed { IsErr result → Rose (F.faults chain.old.file) (F.faults chain.new.file) }
     ensures asked { RowsAsked chain.old.header y count (is_err result) (F.asked chain.old.file) (F.asked chain.new.file) }
     ensures spare { F.spare chain.old.file ≤ F.spare chain.new.file + 1 }
@@ -129,8 +129,8 @@ fn read_rows<Rt: Threads + Sync, F: File>(
         &mut || -> Result<(), Failed>
             requires { (1 ≤ F.spare chain.now.file) × (y + count ≤ chain.now.header.height)
                 × (length rows.now ≡ count * row_length chain.now.header) }
-            ensures { OnOk result (IfSome (F.bytes chain.entry.now.file) (λ b. rows.exit.now ≡ rows_of chain.entry.now.header b y count))
-                × IsTextureIfTold (F.bytes chain.entry.now.file) chain.entry.now.header
+            ensures { OnOk result (IfSome (F.bytes chain.entry.now.file) (λ b. rows.exit.now ≡ sample_rows chain.entry.now.header b y count))
+                × IsTextureIfKnown (F.bytes chain.entry.now.file) chain.entry.now.header
                 × (IsErr result → Rose (F.faults chain.entry.now.file) (F.faults chain.exit.now.file))
                 × RowsAsked chain.entry.now.header y count (is_err result) (F.asked chain.entry.now.file) (F.asked chain.exit.now.file)
                 × (F.spare chain.entry.now.file ≤ F.spare chain.exit.now.file + 1)

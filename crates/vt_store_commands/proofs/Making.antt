@@ -5,7 +5,7 @@ use Rattle.std.specs.Option.{option_map}
 use Rattle.std.specs.List.{flat_map, range_with_len}
 use Rattle.std.proofs.lemmas.List.{append-nil}
 use Rattle.vt_outside.specs.Files.{Files, with_bytes, with_appended}
-use Rattle.vt_outside.proofs.Changes.{told-bytes-appended}
+use Rattle.vt_outside.proofs.Changes.{known-bytes-appended}
 use Rattle.vt_ppm.specs.Picture.{picture_bytes}
 use Rattle.vt_tiles.proofs.Spans.{span_add, span_length}
 use Rattle.vt_store.proofs.Writing.{longer_part}
@@ -87,7 +87,7 @@ pub header_whole : (f0 f1 f2 : Option Files) (name header : List ℕ) (number w 
     → f1 ≡ option_map (with_bytes name []) f0 → f2 ≡ option_map (with_appended name header) f1
     → f2 ≡ option_map (with_bytes name (made_front number w h 0)) f0
 header_whole f0 f1 f2 name header number w h is held added =
-    added ∙ ap (option_map (with_appended name header)) held ∙ told-bytes-appended name [] header f0
+    added ∙ ap (option_map (with_appended name header)) held ∙ known-bytes-appended name [] header f0
     ∙ ap (λ (l : List ℕ). option_map (with_bytes name l) f0) (is ∙ front_none number w h)
 
 -- a prefix of it was
@@ -103,7 +103,7 @@ pub row_whole : (f0 f1 f2 : Option Files) (name row : List ℕ) (number w h y : 
     → f1 ≡ option_map (with_bytes name (made_front number w h y)) f0 → f2 ≡ option_map (with_appended name row) f1
     → f2 ≡ option_map (with_bytes name (made_front number w h (y + 1))) f0
 row_whole f0 f1 f2 name row number w h y is held added =
-    added ∙ ap (option_map (with_appended name row)) held ∙ told-bytes-appended name (made_front number w h y) row f0
+    added ∙ ap (option_map (with_appended name row)) held ∙ known-bytes-appended name (made_front number w h y) row f0
     ∙ ap (λ (l : List ℕ). option_map (with_bytes name l) f0)
     (ap (λ (l : List ℕ). made_front number w h y ++ l) is ∙ front_more number w h y)
 

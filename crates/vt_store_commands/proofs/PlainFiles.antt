@@ -19,7 +19,7 @@ use Rattle.vt_command_words.specs.declared.filters.Filtering.{Filtering}
 use Rattle.vt_command_words.specs.declared.filters.Filtering.TheVariants.{Nearest, Bilinear}
 use Rattle.vt_tiles.proofs.Spans.{span_add, span_length}
 use Rattle.vt_store_commands.specs.declared.plain_files.PlainPictures.{PlainPictures}
-use Rattle.vt_store_commands.specs.PlainFiles.{AreWanted, samples_with, file_of, files_between, file_size, HasHeader, IsRoomForFiles, HasRoom, HoldsFiles}
+use Rattle.vt_store_commands.specs.PlainFiles.{AreLevelsWanted, samples_with, picture_file_of, files_between, file_size, ArePlainHeaders, IsRoomForFiles, HaveRoomFor, HoldsFiles}
 use Rattle.vt_store_commands.proofs.Drawing.{file_is}
 
 parts_length : (a b c d e f g : List ℕ) → length (a ++ b ++ c ++ d ++ e ++ f ++ g)
@@ -48,8 +48,8 @@ header_short d w h depth wide high =
     greatest d (inr two) = rw two (let few : length (decimal 65535) ≤ 10 = length-decimal-le 10 65535 (omega arith) (omega arith) (omega arith) in few)
 
 -- the header of a path's pictures
-pub has_header : (p : PlainPictures) (d w h : ℕ) → AreWanted p.levels p.path.now → p.header.now ≡ picture_header d w h → d ≡ p.levels.chain.now.base.depth
-    → w ≡ p.path.now.width → h ≡ p.path.now.height → IsDepth d → w ≤ 2048 → h ≤ 2048 → HasHeader p
+pub has_header : (p : PlainPictures) (d w h : ℕ) → AreLevelsWanted p.levels p.path.now → p.header.now ≡ picture_header d w h → d ≡ p.levels.chain.now.base.depth
+    → w ≡ p.path.now.width → h ≡ p.path.now.height → IsDepth d → w ≤ 2048 → h ≤ 2048 → ArePlainHeaders p
 has_header p d w h wanted is depth columns rows lawful wide high = record {
   wanted = wanted;
   header = is
@@ -69,12 +69,12 @@ length-samples_with Bilinear l path picture =
     length-rows l.chain.now.base.depth (chain_of l.chain.now.base) (surface_of l.chain.now.base l.chain.now.tile) path (camera_at path picture) path.height
 
 -- a header and samples behind it are the file
-pub file_whole : (p : PlainPictures) (picture : ℕ) (bytes : List ℕ) → HasHeader p
-    → bytes ≡ p.header.now ++ samples_with p.filter p.levels p.path.now picture → bytes ≡ file_of p picture
+pub file_whole : (p : PlainPictures) (picture : ℕ) (bytes : List ℕ) → ArePlainHeaders p
+    → bytes ≡ p.header.now ++ samples_with p.filter p.levels p.path.now picture → bytes ≡ picture_file_of p picture
 file_whole p picture bytes has is =
     file_is p.levels.chain.now.base.depth p.path.now.width p.path.now.height bytes p.header.now (samples_with p.filter p.levels p.path.now picture) is has.header
 
-pub length-file : (p : PlainPictures) → HasHeader p → (picture : ℕ) → length (file_of p picture) ≡ file_size p
+pub length-file : (p : PlainPictures) → ArePlainHeaders p → (picture : ℕ) → length (picture_file_of p picture) ≡ file_size p
 length-file p has picture =
     let samples = samples_with p.filter p.levels p.path.now picture in
     ap length (sym (file_whole p picture (p.header.now ++ samples) has refl))
@@ -183,17 +183,17 @@ file_within size first picture end room fits low high =
     omega (arith, inside, fits)
 
 -- files that were made in the front of a room
-pub holds_front : (p : PlainPictures) (first end n : ℕ) (front rest room : List ℕ) → HasRoom p first end n → length room ≡ n
-    → front ≡ files_between (file_of p) first end → room ≡ front ++ rest → HoldsFiles p first end room
+pub holds_front : (p : PlainPictures) (first end n : ℕ) (front rest room : List ℕ) → HaveRoomFor p first end n → length room ≡ n
+    → front ≡ files_between (picture_file_of p) first end → room ≡ front ++ rest → HoldsFiles p first end room
 holds_front p first end n front rest room space same made is = record {
-  space = subst (λ (m : ℕ). HasRoom p first end m) (sym same) space;
+  space = subst (λ (m : ℕ). HaveRoomFor p first end m) (sym same) space;
   files = ap (take (file_size p * (end - first))) (is ∙ ap (λ (t : List ℕ). t ++ rest) made)
-      ∙ take_at (files_between (file_of p) first end) rest (file_size p * (end - first)) (between_length (file_of p) (file_size p) (length-file p space.has) first end);
+      ∙ take_at (files_between (picture_file_of p) first end) rest (file_size p * (end - first)) (between_length (picture_file_of p) (file_size p) (length-file p space.has) first end);
 }
 
 -- a room that holds files, as the files and what is behind them
 pub held_parts : (p : PlainPictures) (first end : ℕ) (room : List ℕ) → HoldsFiles p first end room
-    → room ≡ files_between (file_of p) first end ++ drop (file_size p * (end - first)) room
+    → room ≡ files_between (picture_file_of p) first end ++ drop (file_size p * (end - first)) room
 held_parts p first end room holds =
     sym (take-append-drop (file_size p * (end - first)) room)
     ∙ ap (λ (t : List ℕ). t ++ drop (file_size p * (end - first)) room) holds.files

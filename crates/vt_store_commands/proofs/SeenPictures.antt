@@ -25,7 +25,7 @@ use Rattle.vt_plain_bilinear.specs.Pictures.{expected_pictures}
 use Rattle.vt_outside.proofs.Writing.{part_none}
 use Rattle.vt_command_words.specs.declared.filters.Filtering.{Filtering}
 use Rattle.vt_command_words.specs.declared.filters.Filtering.TheVariants.{Nearest, Bilinear}
-use Rattle.vt_store_commands.specs.PlainFiles.{AreWanted, file_with}
+use Rattle.vt_store_commands.specs.PlainFiles.{AreLevelsWanted, file_with}
 use Rattle.vt_store_commands.specs.SeenTextures.{HasSides, IsEnough, seen_file, seen_surface}
 use Rattle.vt_store_commands.specs.declared.seen_textures.Seen.{Seen}
 use Rattle.vt_store_commands.proofs.Drawing.{pictures_alike}
@@ -77,7 +77,7 @@ writes_seen filter l s tile path prefix p r chain skipped surface wrote =
 
 -- such levels are those that the pictures want
 pub levels_seen : (l : Levels) (s : Seen) (tile : ℕ) (path : PathView) → 1 ≤ tile → IsEnough s tile path → l.chain.now ≡ record { base = s.image; tile = tile }
-    → l.skipped ≡ s.skipped → l.surface ≡ seen_surface s tile → level_count s.width s.height tile ≤ most_levels → AreWanted l path
+    → l.skipped ≡ s.skipped → l.surface ≡ seen_surface s tile → level_count s.width s.height tile ≤ most_levels → AreLevelsWanted l path
 levels_seen l s tile path some enough chain skipped surface few = record {
   levels = elim enough.sides [
     | inl whole ↦ whole_levels l (seen_surface s tile) (skipped ∙ whole.0) surface
@@ -101,12 +101,12 @@ none_after files after part = front part.rest part.front
     front (x ∷ xs) (inl is) = is
     front (x ∷ xs) (inr is) = is.1
 
-part_alike : (files other : List ExpectedFile) (told after : Option Files) → (IsSome told → files ≡ other) → IsPart files told after → IsPart other told after
+part_alike : (files other : List ExpectedFile) (known after : Option Files) → (IsSome known → files ≡ other) → IsPart files known after → IsPart other known after
 part_alike files other (Some f) after same part = subst (λ (l : List ExpectedFile). IsPart l (Some f) after) (same refl) part
 part_alike files other None after same part = part_none other None after (none_after files after part)
 
-whole_alike : (files other : List ExpectedFile) (told after : Option Files) → (IsSome told → files ≡ other) → after ≡ option_map (with_files files) told
-    → after ≡ option_map (with_files other) told
+whole_alike : (files other : List ExpectedFile) (known after : Option Files) → (IsSome known → files ≡ other) → after ≡ option_map (with_files files) known
+    → after ≡ option_map (with_files other) known
 whole_alike files other (Some f) after same is = is ∙ ap (λ (l : List ExpectedFile). Some (with_files l f)) (same refl)
 whole_alike files other None after same is = is
 

@@ -27,14 +27,14 @@ use Rattle.vt_draw.specs.Plain.{camera_at, chain_of, levels_from, plain_picture,
 use Rattle.vt_draw.proofs.WantedLevels.{levels_whole, pictures_go_on}
 use Rattle.vt_outside.specs.Effects.{FolderState}
 use Rattle.vt_command_inputs.specs.Inputs.{TextureInput, TextureContent, AreStrips}
-use Rattle.vt_command_inputs.specs.Reads.{FileState, Took, OpensTexture, Closed, Refused, IsAsked, IsCausedBy}
+use Rattle.vt_command_inputs.specs.Reads.{OpenFileState, TookInput, OpensTexture, Closed, Refused, IsInputAsked, IsRefusalCausedBy}
 use Rattle.vt_command_inputs.specs.Refusals.{cause_of}
 use Rattle.vt_command_inputs.proofs.OpenWriting.{closed_places, rise}
 use Rattle.vt_command_inputs.proofs.Seeing.{texture_there, strips_asked}
 use Rattle.vt_command_words.specs.declared.filters.Filtering.{Filtering}
 use Rattle.vt_command_words.specs.declared.filters.Filtering.TheVariants.{Nearest, Bilinear}
 use Rattle.vt_store_commands.specs.Pictures.{plain_file}
-use Rattle.vt_store_commands.specs.SeenTextures.{IsEnough, IsOf, seen_file, seen_surface}
+use Rattle.vt_store_commands.specs.SeenTextures.{IsEnough, IsSeenOf, seen_file, seen_surface}
 use Rattle.vt_store_commands.specs.declared.seen_textures.Seen.{Seen}
 use Rattle.vt_store_commands.proofs.Tiling.{strips_tried}
 
@@ -105,11 +105,11 @@ half_file s t tile path i one wide high level some_columns some_rows wants =
     ∙ ap (λ (n : ℕ). picture_bytes n path.width path.height (plain_samples t tile path i)) level.depth
 
 -- a texture that was opened, read by strips and closed
-module _ (name : List ℕ) (h : Header) (before opened after : FolderState) (old new : FileState)
+module _ (name : List ℕ) (h : Header) (before opened after : FolderState) (old new : OpenFileState)
     (o : OpensTexture name h old (record { before = before; after = opened })) (c : Closed new (record { before = opened; after = after }))
     (same : new.name ≡ old.name) where
   asked : (places : List Place) → AreStrips h 128 places → new.asked ≡ option_map (λ held. held ++ places) old.asked
-      → IsAsked (TextureInput name) (record { before = before; after = after })
+      → IsInputAsked (TextureInput name) (record { before = before; after = after })
   asked places are gained =
       let all = strips_asked name old.name 128 old.bytes _ h places before.asked after.asked old.asked o.bytes o.asked o.name_is are
       (closed_places before opened after old new places gained same o.no_places c) in
@@ -119,10 +119,10 @@ module _ (name : List ℕ) (h : Header) (before opened after : FolderState) (old
   faults = let first : before.faults ≤ opened.faults = o.faults in let more : opened.faults ≤ after.faults = c.kept in omega (arith, first, more)
 
   pub coarse_took : AreImageSides most_read_side h.width h.height → StripsAsked h 128 (strips_of h 128) old.asked new.asked
-      → Took (TextureInput name) (TextureContent (texture_of h (unwrap_or old.bytes []))) (record { before = before; after = after })
+      → TookInput (TextureInput name) (TextureContent (texture_of h (unwrap_or old.bytes []))) (record { before = before; after = after })
   coarse_took sides read = record {
-    held = λ told.
-        let there = texture_there name h old (record { before = before; after = opened }) o told in
+    held = λ known.
+        let there = texture_there name h old (record { before = before; after = opened }) o known in
         let is : unwrap_or old.bytes [] ≡ there.0 = ap (λ (t : Option (List ℕ)). unwrap_or t []) there.1 in
         record {
           bytes = there.0;
@@ -135,7 +135,7 @@ module _ (name : List ℕ) (h : Header) (before opened after : FolderState) (old
   }
 
   cause : (error : OutsideError) → (error ≡ outside.Failed → Rose old.faults new.faults)
-      → IsCausedBy (TextureInput name) (record { before = before; after = after }) (cause_of error)
+      → IsRefusalCausedBy (TextureInput name) (record { before = before; after = after }) (cause_of error)
   cause outside.Failed rose = inl (rise before.faults opened.faults after.faults old.faults new.faults o.faults c.kept c.faults (inr (rose refl)))
   cause outside.NoMemory rose = tt
 
@@ -146,11 +146,11 @@ module _ (name : List ℕ) (h : Header) (before opened after : FolderState) (old
       record { cause = cause error rose; files = c.files ∙ o.files; asked = inr (asked some.0 some.1 some.2); faults = faults }
 
 -- what is there suffices
-pub enough_of : (told : Option (List ℕ)) (h : Header) (tile : ℕ) (path : PathView) (s : Seen) → 1 ≤ tile → IsTextureHeader h → IsOf told h tile s
+pub enough_of : (known : Option (List ℕ)) (h : Header) (tile : ℕ) (path : PathView) (s : Seen) → 1 ≤ tile → IsTextureHeader h → IsSeenOf known h tile s
     → ((surface : Surface) (picture y : ℕ) → 2 ≤ surface.levels → picture < length path.cameras → y < path.height
     → 1 ≤ row_level (row_of path (camera_at path picture) y surface))
     → IsEnough s tile path
-enough_of told h tile path s some header is wants = record {
+enough_of known h tile path s some header is wants = record {
   limits = record {
     width_low = omega (arith, is.width, header.sides.some_columns);
     width_high = omega (arith, is.width, header.sides.few_columns);
@@ -165,13 +165,13 @@ enough_of told h tile path s some header is wants = record {
   ];
 }
 
--- and its pictures are those of the texture, where the bytes are told
-pub files_of : (b : List ℕ) (told : Option (List ℕ)) (h : Header) (tile : ℕ) (path : PathView) (s : Seen) (picture : ℕ) → told ≡ Some b
-    → IsTexture b (texture_of h b) → IsOf told h tile s → picture < length path.cameras
+-- and its pictures are those of the texture, where the bytes are known
+pub files_of : (b : List ℕ) (known : Option (List ℕ)) (h : Header) (tile : ℕ) (path : PathView) (s : Seen) (picture : ℕ) → known ≡ Some b
+    → IsTexture b (texture_of h b) → IsSeenOf known h tile s → picture < length path.cameras
     → ((surface : Surface) (picture y : ℕ) → 2 ≤ surface.levels → picture < length path.cameras → y < path.height
     → 1 ≤ row_level (row_of path (camera_at path picture) y surface))
     → seen_file Nearest s tile path picture ≡ plain_file Nearest (texture_of h b) tile path picture
-files_of b told h tile path s picture e texture is inside wants = elim is.sides [
+files_of b known h tile path s picture e texture is inside wants = elim is.sides [
   | inl whole ↦ whole_file Nearest s tile path picture whole.0 whole.1 whole.2
       ∙ ap (λ (t : ImageView). plain_file Nearest t tile path picture) (is.whole whole.0 b e)
   | inr half ↦

@@ -20,7 +20,7 @@ use Rattle.vt_outside.specs.Effects.{FolderState}
 use Rattle.vt_outside.specs.Expectations.{Writes}
 use Rattle.vt_command_inputs.specs.Inputs.{TiledTexture, TextureContent, AreStrips}
 use Rattle.vt_command_inputs.specs.OpenWrites.{WritesMade}
-use Rattle.vt_command_inputs.specs.Reads.{FileState, Took, OpensTexture, Closed, Refused, IsCausedBy}
+use Rattle.vt_command_inputs.specs.Reads.{OpenFileState, TookInput, OpensTexture, Closed, Refused, IsRefusalCausedBy}
 use Rattle.vt_store_commands.specs.commands.Tile.{flaw_of_pages, made_store, expected_store, store_file, IsTooMany}
 use Rattle.vt_command_inputs.specs.declared.flaws.Flaw.{Flaw}
 use Rattle.vt_command_inputs.specs.declared.flaws.Flaw.TheVariants as flaws
@@ -66,10 +66,10 @@ too_many header tile name flaw pages_error.BadSide lawful side refused is =
     absurd (only_many header.width header.height tile pages_error.BadSide lawful.sides.some_columns lawful.sides.few_columns
     lawful.sides.some_rows lawful.sides.few_rows side refused)
 
-many_cause : (name : List ℕ) (tile : ℕ) (header : Header) (file : FileState) (refusal : Refusal) (before opened after : FolderState)
+many_cause : (name : List ℕ) (tile : ℕ) (header : Header) (file : OpenFileState) (refusal : Refusal) (before opened after : FolderState)
     → OpensTexture name header file (record { before = before; after = opened })
     → IsTooMany name (shape_of header.width header.height tile) refusal
-    → IsCausedBy (TiledTexture name tile) (record { before = before; after = after }) refusal
+    → IsRefusalCausedBy (TiledTexture name tile) (record { before = before; after = after }) refusal
 many_cause name tile header file NoMemory before opened after o h = tt
 many_cause name tile header file Usage before opened after o h = h
 many_cause name tile header file (TooFewFrames frames needed) before opened after o h = h
@@ -78,8 +78,8 @@ many_cause name tile header file Fault before opened after o h = absurd h
 many_cause name tile header file (Flawed named (flaws.TooManyPages n)) before opened after o h = (
   h.0,
   inr (n, refl),
-  λ told.
-      let there = texture_there name header file (record { before = before; after = opened }) o told in
+  λ known.
+      let there = texture_there name header file (record { before = before; after = opened }) o known in
       record {
         bytes = there.0;
         there = there.2;
@@ -104,7 +104,7 @@ pub no_strips : (header : Header) (tile : ℕ) → AreStrips header tile []
 no_strips header tile = (0, omega arith, inl refl)
 
 -- a texture that was opened, looked over and closed, and has too many pages
-pub many_refused : (name : List ℕ) (tile : ℕ) (header : Header) (file : FileState) (refusal : Refusal) (before opened after : FolderState)
+pub many_refused : (name : List ℕ) (tile : ℕ) (header : Header) (file : OpenFileState) (refusal : Refusal) (before opened after : FolderState)
     → OpensTexture name header file (record { before = before; after = opened }) → Closed file (record { before = opened; after = after })
     → IsTooMany name (shape_of header.width header.height tile) refusal
     → Refused (TiledTexture name tile) refusal (record { before = before; after = after })
@@ -119,14 +119,14 @@ many_refused name tile header file refusal before opened after o c h = record {
 }
 
 -- the texture was read
-pub texture_took : (name new : List ℕ) (tile : ℕ) (header : Header) (file : FileState) (before opened after : FolderState)
+pub texture_took : (name new : List ℕ) (tile : ℕ) (header : Header) (file : OpenFileState) (before opened after : FolderState)
     (r : Result (Unit {0}) OutsideError)
     → refusal_of (shape_of header.width header.height tile) ≡ None → OpensTexture name header file (record { before = before; after = opened })
     → WritesMade file (made_store header tile) (AreStrips header tile) new (record { before = opened; after = after }) r
-    → Took (TiledTexture name tile) (TextureContent (texture_of header (unwrap_or file.bytes []))) (record { before = before; after = read_first before after })
+    → TookInput (TiledTexture name tile) (TextureContent (texture_of header (unwrap_or file.bytes []))) (record { before = before; after = read_first before after })
 texture_took name new tile header file before opened after r few o w = record {
-  held = λ told.
-      let there = texture_there name header file (record { before = before; after = opened }) o told in
+  held = λ known.
+      let there = texture_there name header file (record { before = before; after = opened }) o known in
       let same : unwrap_or file.bytes [] ≡ there.0 = ap (λ (h : Option (List ℕ)). unwrap_or h []) there.1 in
       record { bytes = there.0; there = there.2; is = (rw same there.3, few) };
   files = refl;
@@ -136,24 +136,24 @@ texture_took name new tile header file before opened after r few o w = record {
 }
 
 -- its store was written
-pub store_written : (name new : List ℕ) (tile : ℕ) (header : Header) (file : FileState) (before opened after : FolderState)
+pub store_written : (name new : List ℕ) (tile : ℕ) (header : Header) (file : OpenFileState) (before opened after : FolderState)
     → OpensTexture name header file (record { before = before; after = opened })
     → WritesMade file (made_store header tile) (AreStrips header tile) new (record { before = opened; after = after }) (Ok tt)
     → Writes {T = Unit {0}} (expected_store new (texture_of header (unwrap_or file.bytes [])) tile).files
     (record { before = read_first before after; after = after }) (Ok tt)
 unfolding store_file
 store_written name new tile header file before opened after o w =
-    expected_written (made_store header tile) (AreStrips header tile) new file before opened after o.tells o.files o.faults w
+    expected_written (made_store header tile) (AreStrips header tile) new file before opened after o.known_too o.files o.faults w
 
 -- a prefix of it was
-pub store_stopped : (name new : List ℕ) (tile : ℕ) (header : Header) (file : FileState) (before opened after : FolderState) (error : OutsideError)
+pub store_stopped : (name new : List ℕ) (tile : ℕ) (header : Header) (file : OpenFileState) (before opened after : FolderState) (error : OutsideError)
     → OpensTexture name header file (record { before = before; after = opened })
     → WritesMade file (made_store header tile) (AreStrips header tile) new (record { before = opened; after = after }) (Err error)
     → Writes {T = Unit {0}} (expected_store new (texture_of header (unwrap_or file.bytes [])) tile).files
     (record { before = read_first before after; after = after }) (Err error)
 unfolding store_file
 store_stopped name new tile header file before opened after error o w =
-    expected_stopped (made_store header tile) (AreStrips header tile) new file before opened after error o.tells o.files o.faults w
+    expected_stopped (made_store header tile) (AreStrips header tile) new file before opened after error o.known_too o.files o.faults w
 
 -- the strips that were asked
 pub strips_tried : (header : Header) (tile : ℕ) (before after : Option (List Place)) → StripsTried header tile before after

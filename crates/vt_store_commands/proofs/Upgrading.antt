@@ -18,7 +18,7 @@ use Rattle.vt_outside.specs.Expectations.{Writes}
 use Rattle.vt_command_inputs.specs.Inputs.{NarrowStore, NarrowContent, AsksPieces, ArePieces, header_places}
 use Rattle.vt_command_inputs.specs.HeldInputs.{Holds}
 use Rattle.vt_command_inputs.specs.OpenWrites.{WritesMade}
-use Rattle.vt_command_inputs.specs.Reads.{FileState, Took, OpensStore, Closed}
+use Rattle.vt_command_inputs.specs.Reads.{OpenFileState, TookInput, OpensStore, Closed}
 use Rattle.vt_store_commands.specs.commands.Upgrade.{upgraded_file, expected_wide}
 use Rattle.vt_command_inputs.proofs.OpenWriting.{read_first, made_written, made_stopped, expected_written, expected_stopped}
 use Rattle.vt_command_inputs.proofs.Reading.{placed}
@@ -32,17 +32,17 @@ front_of shape before after f = elim f.asked [
 ]
 
 -- the widened store as what the bytes of the old one make
-made_whole : (told : Option (List ℕ)) (shape : Shape) (name : List ℕ) (before after : Option Files) → HoldsWidened told shape name before after
-    → HoldsMade told (upgraded_file shape) name before after
-made_whole told shape name before after h = record { written = h.written; held = h.held; same = h.same }
+made_whole : (known : Option (List ℕ)) (shape : Shape) (name : List ℕ) (before after : Option Files) → HoldsWidened known shape name before after
+    → HoldsMade known (upgraded_file shape) name before after
+made_whole known shape name before after h = record { written = h.written; held = h.held; same = h.same }
 
-made_front : (told : Option (List ℕ)) (shape : Shape) (name : List ℕ) (before after : Option Files)
-    → (after ≡ before) ⊎ HoldsFront told shape name before after → (after ≡ before) ⊎ HoldsMadeFront told (upgraded_file shape) name before after
-made_front told shape name before after (inl same) = inl same
-made_front told shape name before after (inr h) = inr (record { written = h.written; held = h.held; part = h.part })
+made_front : (known : Option (List ℕ)) (shape : Shape) (name : List ℕ) (before after : Option Files)
+    → (after ≡ before) ⊎ HoldsFront known shape name before after → (after ≡ before) ⊎ HoldsMadeFront known (upgraded_file shape) name before after
+made_front known shape name before after (inl same) = inl same
+made_front known shape name before after (inr h) = inr (record { written = h.written; held = h.held; part = h.part })
 
 -- the widened store was written, and the file closed
-pub wide_written : (shape : Shape) (name : List ℕ) (before mid after : FolderState) (old new : FileState)
+pub wide_written : (shape : Shape) (name : List ℕ) (before mid after : FolderState) (old new : OpenFileState)
     → HoldsWidened old.bytes shape name before.files mid.files → PiecesAsked shape 1 (pieces_of shape) old.asked new.asked
     → new.name ≡ old.name → mid.asked ≡ before.asked → before.faults ≤ mid.faults → Closed new (record { before = mid; after = after })
     → WritesMade old (upgraded_file shape) (ArePieces shape) name (record { before = before; after = after }) (Ok tt)
@@ -51,7 +51,7 @@ wide_written shape name before mid after old new h asked same none faults c =
     (made_whole old.bytes shape name before.files mid.files h) (pieces_of shape, omega arith, inl refl) asked same none faults c
 
 -- a prefix of it was written, and the file closed
-pub wide_stopped : (shape : Shape) (name : List ℕ) (before mid after : FolderState) (old new : FileState) (error : OutsideError)
+pub wide_stopped : (shape : Shape) (name : List ℕ) (before mid after : FolderState) (old new : OpenFileState) (error : OutsideError)
     → (mid.files ≡ before.files) ⊎ HoldsFront old.bytes shape name before.files mid.files → FrontAsked shape 1 old.asked new.asked
     → (error ≡ Failed → Rose before.faults mid.faults ⊎ Rose old.faults new.faults)
     → new.name ≡ old.name → mid.asked ≡ before.asked → before.faults ≤ mid.faults → Closed new (record { before = mid; after = after })
@@ -63,12 +63,12 @@ wide_stopped shape name before mid after old new error h asked failed same none 
 
 held_of : (name : List ℕ) (shape : Shape) (o : Option (List ℕ)) (files : Option Files) → o ≡ bytes_at files name → is_some o ≡ is_some files
     → ((b : List ℕ) → o ≡ Some b → IsStore b shape 1) → IsSome files → Holds files (NarrowStore name) (NarrowContent shape (unwrap_or o []))
-held_of name shape None files same tells is told = absurd (false≢true (tells ∙ told))
-held_of name shape (Some b) files same tells is told = record { bytes = b; there = sym same; is = (is b refl, refl) }
+held_of name shape None files same known_too is known = absurd (false≢true (known_too ∙ known))
+held_of name shape (Some b) files same known_too is known = record { bytes = b; there = sym same; is = (is b refl, refl) }
 
-told_store : (shape : Shape) (o : Option (List ℕ)) → ((b : List ℕ) → o ≡ Some b → IsStore b shape 1) → IfSome o (λ b. IsStore b shape 1)
-told_store shape None is = tt
-told_store shape (Some b) is = is b refl
+known_store : (shape : Shape) (o : Option (List ℕ)) → ((b : List ℕ) → o ≡ Some b → IsStore b shape 1) → IfSome o (λ b. IsStore b shape 1)
+known_store shape None is = tt
+known_store shape (Some b) is = is b refl
 
 more_places : (asked : Option Asked) (header pieces : List Place)
     → option_map (λ (old : List Place). old ++ pieces) (option_map (λ (_ : Asked). header) asked)
@@ -77,17 +77,17 @@ more_places None header pieces = refl
 more_places (Some a) header pieces = refl
 
 -- the store was read
-pub store_took : (name new : List ℕ) (shape : Shape) (depth : ℕ) (file : FileState) (before opened after : FolderState) (r : Result (Unit {0}) OutsideError)
+pub store_took : (name new : List ℕ) (shape : Shape) (depth : ℕ) (file : OpenFileState) (before opened after : FolderState) (r : Result (Unit {0}) OutsideError)
     → depth ≡ 1 → OpensStore name shape depth file (record { before = before; after = opened })
     → WritesMade file (upgraded_file shape) (ArePieces shape) new (record { before = opened; after = after }) r
-    → Took (NarrowStore name) (NarrowContent shape (unwrap_or file.bytes [])) (record { before = before; after = read_first before after })
+    → TookInput (NarrowStore name) (NarrowContent shape (unwrap_or file.bytes [])) (record { before = before; after = read_first before after })
 store_took name new shape depth file before opened after r is_narrow o w = record {
-  held = held_of name shape file.bytes before.files o.bytes o.tells narrow;
+  held = held_of name shape file.bytes before.files o.bytes o.known_too narrow;
   files = refl;
   asked = (
     header_places ++ w.places,
-    subst (λ (told : Option (List ℕ)). AsksPieces told (header_places ++ w.places)) o.bytes
-        (inr (shape, w.places, told_store shape file.bytes narrow, w.are, refl)),
+    subst (λ (known : Option (List ℕ)). AsksPieces known (header_places ++ w.places)) o.bytes
+        (inr (shape, w.places, known_store shape file.bytes narrow, w.are, refl)),
     w.asked
         ∙ ap (option_map (with_places file.name (option_map (λ (old : List Place). old ++ w.places) file.asked))) o.no_places
         ∙ placed name file.name (header_places ++ w.places) before.asked (option_map (λ (old : List Place). old ++ w.places) file.asked)
@@ -100,17 +100,17 @@ store_took name new shape depth file before opened after r is_narrow o w = recor
     narrow b is = subst (λ (d : ℕ). IsStore b shape d) is_narrow (o.is.each b is)
 
 -- the new store was written
-pub new_written : (name new : List ℕ) (shape : Shape) (depth : ℕ) (file : FileState) (before opened after : FolderState)
+pub new_written : (name new : List ℕ) (shape : Shape) (depth : ℕ) (file : OpenFileState) (before opened after : FolderState)
     → OpensStore name shape depth file (record { before = before; after = opened })
     → WritesMade file (upgraded_file shape) (ArePieces shape) new (record { before = opened; after = after }) (Ok tt)
     → Writes {T = Unit {0}} (expected_wide new shape (unwrap_or file.bytes [])).files (record { before = read_first before after; after = after }) (Ok tt)
 new_written name new shape depth file before opened after o w =
-    expected_written (upgraded_file shape) (ArePieces shape) new file before opened after o.tells o.files o.faults w
+    expected_written (upgraded_file shape) (ArePieces shape) new file before opened after o.known_too o.files o.faults w
 
 -- a prefix of it was
-pub new_stopped : (name new : List ℕ) (shape : Shape) (depth : ℕ) (file : FileState) (before opened after : FolderState) (error : OutsideError)
+pub new_stopped : (name new : List ℕ) (shape : Shape) (depth : ℕ) (file : OpenFileState) (before opened after : FolderState) (error : OutsideError)
     → OpensStore name shape depth file (record { before = before; after = opened })
     → WritesMade file (upgraded_file shape) (ArePieces shape) new (record { before = opened; after = after }) (Err error)
     → Writes {T = Unit {0}} (expected_wide new shape (unwrap_or file.bytes [])).files (record { before = read_first before after; after = after }) (Err error)
 new_stopped name new shape depth file before opened after error o w =
-    expected_stopped (upgraded_file shape) (ArePieces shape) new file before opened after error o.tells o.files o.faults w
+    expected_stopped (upgraded_file shape) (ArePieces shape) new file before opened after error o.known_too o.files o.faults w

@@ -25,11 +25,11 @@ samples_with Bilinear l path picture = plain_blends l.chain.now.base l.chain.now
 abbrev pub file_with : Filtering → Levels → PathView → ℕ → List ℕ
 file_with filter l path picture = picture_bytes l.chain.now.base.depth path.width path.height (samples_with filter l path picture)
 
-abbrev pub file_of : PlainPictures → ℕ → List ℕ
-file_of p picture = file_with p.filter p.levels p.path.now picture
+abbrev pub picture_file_of : PlainPictures → ℕ → List ℕ
+picture_file_of p picture = file_with p.filter p.levels p.path.now picture
 
 -- the levels are there that the rows of a path's pictures want
-pub record AreWanted (l : Levels) (path : PathView) : Type 0 where
+pub record AreLevelsWanted (l : Levels) (path : PathView) : Type 0 where
   pub levels : AreLevels l
   pub wants : (picture : ℕ) → picture < length path.cameras → WantsNone l path (camera_at path picture)
 
@@ -42,29 +42,29 @@ abbrev pub file_size : PlainPictures → ℕ
 file_size p = length p.header.now + texel_length p.levels.chain.now.base.depth * (p.path.now.width * p.path.now.height)
 
 -- the header is that of each file, and the levels are there
-pub record HasHeader (p : PlainPictures) : Type 0 where
-  pub wanted : AreWanted p.levels p.path.now
+pub record ArePlainHeaders (p : PlainPictures) : Type 0 where
+  pub wanted : AreLevelsWanted p.levels p.path.now
   pub header : p.header.now ≡ picture_header p.levels.chain.now.base.depth p.path.now.width p.path.now.height
   pub short : length p.header.now ≤ 64
 
 -- there are pictures from one on to another, and so many bytes are exactly their files' room
 pub record IsRoomForFiles (p : PlainPictures) (first end room : ℕ) : Type 0 where
-  pub has : HasHeader p
+  pub has : ArePlainHeaders p
   pub order : first ≤ end
   pub few : end ≤ length p.path.now.cameras
   pub full : room ≡ file_size p * (end - first)
 
 -- and their files fit into so many bytes
-pub record HasRoom (p : PlainPictures) (first end room : ℕ) : Type 0 where
-  pub has : HasHeader p
+pub record HaveRoomFor (p : PlainPictures) (first end room : ℕ) : Type 0 where
+  pub has : ArePlainHeaders p
   pub order : first ≤ end
   pub few : end ≤ length p.path.now.cameras
   pub fits : file_size p * (end - first) ≤ room
 
 -- a room begins with the files of the pictures from one on to another
 pub record HoldsFiles (p : PlainPictures) (first end : ℕ) (room : List ℕ) : Type 0 where
-  pub space : HasRoom p first end (length room)
-  pub files : take (file_size p * (end - first)) room ≡ files_between (file_of p) first end
+  pub space : HaveRoomFor p first end (length room)
+  pub files : take (file_size p * (end - first)) room ≡ files_between (picture_file_of p) first end
 
 -- the pictures up to one are written, or what writing all of them may leave
 abbrev pub Reaches : List ℕ → (ℕ → List ℕ) → ℕ → ℕ → FolderState → FolderState → Result (Unit {0}) OutsideError → Type 0

@@ -17,7 +17,7 @@ use Rattle.vt_plain_bilinear.specs.Pictures.{expected_pictures}
 use Rattle.vt_outside.specs.Expectations.{Expected}
 use Rattle.vt_command_inputs.specs.Inputs.{TextureInput, TextureContent}
 use Rattle.vt_command_inputs.specs.Lines.{end_line}
-use Rattle.vt_command_inputs.specs.Reads.{Took}
+use Rattle.vt_command_inputs.specs.Reads.{TookInput}
 use Rattle.vt_store_commands.specs.Pictures.{plain_file}
 use Rattle.vt_command_words.specs.declared.filters.Filtering.{Filtering}
 use Rattle.vt_command_words.specs.declared.filters.Filtering.TheVariants.{Nearest, Bilinear}
@@ -59,19 +59,19 @@ pub record IsEnough (s : Seen) (tile : ℕ) (path : PathView) : Type 0 where
   pub sides : HasSides s tile
   pub none : SeesNone s tile path
 
--- what was read of an open texture with this header, as far as its bytes are told: all of it, or its level 1
-pub record IsOf (told : Option (List ℕ)) (h : Header) (tile : ℕ) (s : Seen) : Type 0 where
+-- what was read of an open texture with this header, as far as its bytes are known: all of it, or its level 1
+pub record IsSeenOf (known : Option (List ℕ)) (h : Header) (tile : ℕ) (s : Seen) : Type 0 where
   pub width : s.width ≡ h.width
   pub height : s.height ≡ h.height
   pub depth : s.image.depth ≡ depth_of h.maximum
   pub sides : HasSides s tile
-  pub whole : s.skipped ≡ 0 → (b : List ℕ) → told ≡ Some b → s.image ≡ texture_of h b
-  pub half : s.skipped ≡ 1 → IsLawfulImage s.image × ((b : List ℕ) → told ≡ Some b → IsHalf (texture_of h b) s.image)
+  pub whole : s.skipped ≡ 0 → (b : List ℕ) → known ≡ Some b → s.image ≡ texture_of h b
+  pub half : s.skipped ≡ 1 → IsLawfulImage s.image × ((b : List ℕ) → known ≡ Some b → IsHalf (texture_of h b) s.image)
 
 -- the texture of a name was read, and its pictures are those of what is there
 pub record Sees (name : List ℕ) (filter : Filtering) (tile : ℕ) (path : PathView) (s : Seen) (p : FolderEffect) : Type 0 where
   pub texture : ImageView
-  pub took : Took (TextureInput name) (TextureContent texture) p
+  pub took : TookInput (TextureInput name) (TextureContent texture) p
   pub enough : IsEnough s tile path
   pub files : IsSome p.before.files → (picture : ℕ) → picture < length path.cameras
       → seen_file filter s tile path picture ≡ plain_file filter texture tile path picture

@@ -3,7 +3,7 @@
 ghost use Rattle.std.specs.Prelude.{◌≡◌, true, IfSome, map, option_map};
 ghost use Rattle.clap.specs.Words.{rows_of, found_of};
 ghost use Rattle.vt_command_words.specs.Arguments.{rule_for, are_simple, texts};
-ghost use Rattle.vt_command_words.specs.Reading.{IsAnswer};
+ghost use Rattle.vt_command_words.specs.Reading.{IsReadAnswer};
 ghost use Rattle.vt_outside.specs.Effects.{call_effect};
 ghost use Rattle.vt_command_inputs.specs.CommandSpecs.{EndsBy};
 ghost use Rattle.vt_store_commands.specs.commands.{usage_line, kind_of, rules_of, values_for, store_text, shown_store, IsLawfulStore, store_spec};
@@ -67,7 +67,7 @@ pub fn read_store_command<'a>(
     name: &'a str,
     words: &'a [String],
 ) -> Result<StoreCommand<'a>, WordsError>
-    ensures { IsAnswer shown_store IsLawfulStore (store_text name.entry.now (texts words.entry.now)) result }
+    ensures { IsReadAnswer shown_store IsLawfulStore (store_text name.entry.now (texts words.entry.now)) result }
 {
     let Some(kind) = kind_of(name) else {
         return Err(WordsError::Usage);

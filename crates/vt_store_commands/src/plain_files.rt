@@ -3,7 +3,7 @@
 ghost use Rattle.std.specs.Prelude.{◌≡◌, ◌+◌, ◌*◌, ◌<◌, ◌≤◌, ◌^◌, length};
 ghost use Rattle.std.specs.Thread.{IsSync};
 ghost use Rattle.vt_definitions.specs.Depths.{texel_length};
-ghost use Rattle.vt_store_commands.specs.PlainFiles.{AreWanted, HasHeader, HasRoom, HoldsFiles, IsRoomForFiles, file_of, file_size, files_between, samples_with};
+ghost use Rattle.vt_store_commands.specs.PlainFiles.{AreLevelsWanted, ArePlainHeaders, HaveRoomFor, HoldsFiles, IsRoomForFiles, picture_file_of, file_size, files_between, samples_with};
 
 use std::thread::{Threads, join_mut};
 use vt_camera::Path;
@@ -24,7 +24,7 @@ pub(crate) struct PlainPictures<'a> {
 
 /// How many bytes each file has.
 pub(crate) fn file_size(pictures: &PlainPictures<'_>) -> usize
-    requires { HasHeader pictures.now }
+    requires { ArePlainHeaders pictures.now }
     ensures value { result ≡ file_size pictures.now }
     ensures small { result < 2 ^ 31 }
 {
@@ -44,7 +44,7 @@ fn draw_samples<Rt: Threads + Sync>(
     picture: u32,
     out: &mut [u8],
 )
-    requires wanted { AreWanted levels.now path.now }
+    requires wanted { AreLevelsWanted levels.now path.now }
     requires picture { picture < length path.now.cameras }
     requires room { length out.old ≡ texel_length levels.now.chain.now.base.depth * (path.now.width * path.now.height) }
     ensures { out.new ≡ samples_with filter levels.now path.now picture }
@@ -63,10 +63,10 @@ fn draw_file<Rt: Threads + Sync>(
     picture: u32,
     out: &mut [u8],
 )
-    requires has { HasHeader pictures.now }
+    requires has { ArePlainHeaders pictures.now }
     requires picture { picture < length pictures.now.path.now.cameras }
     requires room { length out.old ≡ file_size pictures.now }
-    ensures { out.new ≡ file_of pictures.now picture }
+    ensures { out.new ≡ picture_file_of pictures.now picture }
 {
     let (header, samples) = out.split_at_mut(pictures.header.len());
     header.copy_from_slice(pictures.header);
@@ -91,7 +91,7 @@ fn draw_in_turn<Rt: Threads + Sync>(
     out: &mut [u8],
 )
     requires { IsRoomForFiles pictures.now first end (length out.old) }
-    ensures { out.new ≡ files_between (file_of pictures.now) first end }
+    ensures { out.new ≡ files_between (picture_file_of pictures.now) first end }
 {
     let size = file_size(pictures);
     for picture in first..end {
@@ -123,7 +123,7 @@ fn draw_files<Rt: Threads + Sync>(
     out: &mut [u8],
 )
     requires { IsRoomForFiles pictures.now first end (length out.old) }
-    ensures { out.new ≡ files_between (file_of pictures.now) first end }
+    ensures { out.new ≡ files_between (picture_file_of pictures.now) first end }
 {
     if threads < 2 || end - first < 2 {
         draw_in_turn(rt, threads, pictures, first, end, out);
@@ -163,16 +163,16 @@ fn draw_both<Rt: Threads + Sync>(
     requires some { (1 ≤ few) × (1 ≤ many) }
     requires front { IsRoomForFiles pictures.now first middle (length front.old) }
     requires back { IsRoomForFiles pictures.now middle end (length back.old) }
-    ensures front { front.new ≡ files_between (file_of pictures.now) first middle }
-    ensures back { back.new ≡ files_between (file_of pictures.now) middle end }
+    ensures front { front.new ≡ files_between (picture_file_of pictures.now) first middle }
+    ensures back { back.new ≡ files_between (picture_file_of pictures.now) middle end }
 {
     let mut above = ||
         requires { IsSync Rt.row × IsRoomForFiles pictures.now first middle (length front.now) }
-        ensures { front.exit.now ≡ files_between (file_of pictures.entry.now) first middle }
+        ensures { front.exit.now ≡ files_between (picture_file_of pictures.entry.now) first middle }
     { draw_files(rt, few, pictures, first, middle, front) };
     let mut below = ||
         requires { IsSync Rt.row × IsRoomForFiles pictures.now middle end (length back.now) }
-        ensures { back.exit.now ≡ files_between (file_of pictures.entry.now) middle end }
+        ensures { back.exit.now ≡ files_between (picture_file_of pictures.entry.now) middle end }
     { draw_files(rt, many, pictures, middle, end, back) };
     join_mut(rt, &mut above, &mut below);
 }
@@ -187,7 +187,7 @@ pub(crate) fn draw_front<Rt: Threads + Sync>(
     end: u32,
     room: &mut [u8],
 )
-    requires { HasRoom pictures.now first end (length room.old) }
+    requires { HaveRoomFor pictures.now first end (length room.old) }
     ensures { HoldsFiles pictures.now first end room.new }
 {
     let size = file_size(pictures);

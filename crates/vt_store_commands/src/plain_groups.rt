@@ -6,7 +6,7 @@ ghost use Rattle.vt_outside.specs.Effects.{folder_effect};
 ghost use Rattle.vt_outside.specs.Expectations.{Writes};
 ghost use Rattle.vt_plain_bilinear.specs.Pictures.{expected_pictures};
 ghost use Rattle.vt_plain_bilinear.specs.Names.{four_digit_numbers, picture_name};
-ghost use Rattle.vt_store_commands.specs.PlainFiles.{HasHeader, HasRoom, HoldsFiles, WritesOn, file_of, file_size};
+ghost use Rattle.vt_store_commands.specs.PlainFiles.{ArePlainHeaders, HaveRoomFor, HoldsFiles, WritesOn, picture_file_of, file_size};
 
 use crate::plain_files::{PlainPictures, draw_front, file_size};
 use std::alloc::Global;
@@ -77,7 +77,7 @@ fn write_files<D: Folder>(
     folder: &mut D,
 ) -> Result<(), OutsideError>
     requires { HoldsFiles pictures.now first end room.now }
-    ensures { WritesOn prefix.now (file_of pictures.now) first end (length pictures.now.path.now.cameras)
+    ensures { WritesOn prefix.now (picture_file_of pictures.now) first end (length pictures.now.path.now.cameras)
         (folder_effect D.Folder folder.old folder.new) result }
 {
     let _ = pictures.path.pictures();
@@ -103,9 +103,9 @@ fn write_then_draw<Rt: Threads + Sync, D: Folder>(
     folder: &mut D,
 ) -> Result<(), OutsideError>
     requires holds { HoldsFiles pictures.now first middle room.old }
-    requires next { HasRoom pictures.now middle end (length room.old) }
+    requires next { HaveRoomFor pictures.now middle end (length room.old) }
     ensures drawn { HoldsFiles pictures.now middle end room.new }
-    ensures written { WritesOn prefix.now (file_of pictures.now) first middle (length pictures.now.path.now.cameras)
+    ensures written { WritesOn prefix.now (picture_file_of pictures.now) first middle (length pictures.now.path.now.cameras)
         (folder_effect D.Folder folder.old folder.new) result }
 {
     let written = write_files(alloc, pictures, prefix, first, middle, room, folder);
@@ -129,20 +129,20 @@ fn write_and_draw<Rt: Threads + Sync, D: Folder>(
     folder: &mut D,
 ) -> Result<(), OutsideError>
     requires holds { HoldsFiles pictures.now first middle drawn.now }
-    requires next { HasRoom pictures.now middle end (length room.old) }
+    requires next { HaveRoomFor pictures.now middle end (length room.old) }
     ensures drawn { HoldsFiles pictures.now middle end room.new }
-    ensures written { WritesOn prefix.now (file_of pictures.now) first middle (length pictures.now.path.now.cameras)
+    ensures written { WritesOn prefix.now (picture_file_of pictures.now) first middle (length pictures.now.path.now.cameras)
         (folder_effect D.Folder folder.old folder.new) result }
 {
     let (_, written) = join_mut(
         rt,
         &mut || -> ()
-            requires { IsSync Rt.row × HasRoom pictures.now middle end (length room.now) }
+            requires { IsSync Rt.row × HaveRoomFor pictures.now middle end (length room.now) }
             ensures { HoldsFiles pictures.entry.now middle end room.exit.now }
         { draw_front(rt, threads, pictures, middle, end, room) },
         &mut || -> Result<(), OutsideError>
             requires { HoldsFiles pictures.now first middle drawn.now }
-            ensures { WritesOn prefix.entry.now (file_of pictures.entry.now) first middle
+            ensures { WritesOn prefix.entry.now (picture_file_of pictures.entry.now) first middle
                 (length pictures.entry.now.path.now.cameras) (folder_effect D.Folder folder.entry.now folder.exit.now) result }
         { write_files(alloc, pictures, prefix, first, middle, drawn, folder) },
     );
@@ -172,10 +172,10 @@ fn write_next<Rt: Threads + Sync, D: Folder>(
 ) -> Result<(), OutsideError>
     requires threads { 1 ≤ threads }
     requires holds { HoldsFiles pictures.now first middle front.old.items }
-    requires next { HasRoom pictures.now middle end (vec_len front.old) }
+    requires next { HaveRoomFor pictures.now middle end (vec_len front.old) }
     requires back { (vec_len back.old ≡ 0) ⊎ (vec_len back.old ≡ vec_len front.old) }
     ensures drawn { HoldsFiles pictures.now middle end front.new.items }
-    ensures written { WritesOn prefix.now (file_of pictures.now) first middle (length pictures.now.path.now.cameras)
+    ensures written { WritesOn prefix.now (picture_file_of pictures.now) first middle (length pictures.now.path.now.cameras)
         (folder_effect D.Folder folder.old folder.new) result }
     ensures front { vec_len front.new ≡ vec_len front.old }
     ensures back { vec_len back.new ≡ vec_len back.old }
@@ -239,12 +239,12 @@ fn write_groups<Rt: Threads + Sync, D: Folder>(
     back: &mut Vec<u8>,
     folder: &mut D,
 ) -> Result<(), OutsideError>
-    requires has { HasHeader pictures.now }
+    requires has { ArePlainHeaders pictures.now }
     requires some { 1 ≤ group }
     requires threads { 1 ≤ threads }
     requires front { file_size pictures.now * group ≤ vec_len front.old }
     requires back { (vec_len back.old ≡ 0) ⊎ (vec_len back.old ≡ vec_len front.old) }
-    ensures { Writes (expected_pictures prefix.now (file_of pictures.now) (length pictures.now.path.now.cameras))
+    ensures { Writes (expected_pictures prefix.now (picture_file_of pictures.now) (length pictures.now.path.now.cameras))
         (folder_effect D.Folder folder.old folder.new) result }
 {
     let all = pictures.path.pictures();
@@ -273,8 +273,8 @@ pub(crate) fn write_pictures<Rt: Threads + Sync, D: Folder>(
     prefix: &str,
     folder: &mut D,
 ) -> Result<(), OutsideError>
-    requires { HasHeader pictures.now }
-    ensures { Writes (expected_pictures prefix.now (file_of pictures.now) (length pictures.now.path.now.cameras))
+    requires { ArePlainHeaders pictures.now }
+    ensures { Writes (expected_pictures prefix.now (picture_file_of pictures.now) (length pictures.now.path.now.cameras))
         (folder_effect D.Folder folder.old folder.new) result }
 {
     let path = pictures.path;

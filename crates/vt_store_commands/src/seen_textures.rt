@@ -6,7 +6,7 @@ ghost use Rattle.vt_outside.specs.Counts.{Rose};
 ghost use Rattle.vt_ppm.specs.Flaws.{AreImageSides};
 ghost use Rattle.vt_ppm.specs.Format.{depth_of};
 ghost use Rattle.vt_ppm.specs.StripPlaces.{StripsAsked, StripsTried, strips_of};
-ghost use Rattle.vt_ppm.specs.Strips.{IsTextureIfTold, texture_of};
+ghost use Rattle.vt_ppm.specs.Strips.{IsTextureIfKnown, texture_of};
 ghost use Rattle.vt_definitions.specs.Limits.{most_read_side};
 ghost use Rattle.vt_mip.specs.HalvedStrips.{strip_height};
 ghost use Rattle.vt_camera.specs.Rows.{row_of, row_level};
@@ -15,7 +15,7 @@ ghost use Rattle.vt_draw.specs.Plain.{camera_at};
 ghost use Rattle.vt_outside.specs.Effects.{folder_effect};
 ghost use Rattle.vt_command_inputs.specs.Inputs.{TextureInput};
 ghost use Rattle.vt_command_inputs.specs.Reads.{Refused};
-ghost use Rattle.vt_store_commands.specs.SeenTextures.{IsOf, Sees};
+ghost use Rattle.vt_store_commands.specs.SeenTextures.{IsSeenOf, Sees};
 
 use std::alloc::Global;
 use std::thread::Threads;
@@ -84,8 +84,8 @@ fn seen_in<Rt: Threads + Sync, F: File>(
     requires checked { reader.old.checked ≡ true }
     requires sides { AreImageSides most_read_side reader.old.header.width reader.old.header.height }
     requires tile { IsTileSide tile }
-    ensures seen { IfOk result (λ s. IsOf (F.bytes reader.old.file) reader.old.header tile s) }
-    ensures texture { IsTextureIfTold (F.bytes reader.old.file) reader.old.header }
+    ensures seen { IfOk result (λ s. IsSeenOf (F.bytes reader.old.file) reader.old.header tile s) }
+    ensures texture { IsTextureIfKnown (F.bytes reader.old.file) reader.old.header }
     ensures read { OnOk result (StripsAsked reader.old.header strip_height (strips_of reader.old.header strip_height)
         (F.asked reader.old.file) (F.asked reader.new.file)) }
     ensures tried { OnErr result (StripsTried reader.old.header strip_height (F.asked reader.old.file) (F.asked reader.new.file)) }

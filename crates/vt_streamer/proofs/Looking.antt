@@ -6,7 +6,7 @@ use native.Mathlib.Decide.{ℕ_discrete}
 use Rattle.vt_grace.specs.declared.views.Look.{Look}
 use Rattle.vt_grace.specs.declared.views.WriterView.{WriterView}
 use Rattle.vt_grace.specs.WriterViews.{version_of, floor_of, raised, after_look}
-use Rattle.vt_streamer.specs.Looks.{HasLooked, IsBehind, IsFirstBehind}
+use Rattle.vt_streamer.specs.Looks.{HasOnlyLooked, IsBehind, IsFirstBehind}
 
 raised_up : (v f n : ℕ) → f ≤ v → f ≤ raised v f n
 raised_up v f zero low = low
@@ -14,8 +14,8 @@ raised_up v f (suc k) low = omega arith
 
 -- one look
 pub looked_once : (v w : WriterView) (sampler word : ℕ) → w ≡ after_look v sampler word → sampler < length v.floors → floor_of v sampler ≤ version_of v
-    → HasLooked v w
-looked_once v w sampler word after inside low = subst (λ (x : WriterView). HasLooked v x) (sym after) record {
+    → HasOnlyLooked v w
+looked_once v w sampler word after inside low = subst (λ (x : WriterView). HasOnlyLooked v x) (sym after) record {
   rest = refl;
   up = λ k. dite (ℕ_discrete k sampler)
       (λ same. let here : floor_of (after_look v sampler word) k ≡ floor = ap (λ (j : ℕ). get_or (set v.floors sampler floor) j 0) same
@@ -30,7 +30,7 @@ looked_once v w sampler word after inside low = subst (λ (x : WriterView). HasL
     floor = raised (version_of v) (floor_of v sampler) word
 
 -- looks after looks
-pub looked_on : (u v w : WriterView) → HasLooked u v → HasLooked v w → HasLooked u w
+pub looked_on : (u v w : WriterView) → HasOnlyLooked u v → HasOnlyLooked v w → HasOnlyLooked u w
 looked_on u v w first second = record {
   rest = second.rest ∙ ap (λ (x : WriterView). record x { floors = w.floors; looks = w.looks }) first.rest;
   up = λ k. let a = first.up k in let b = second.up k in omega arith;
@@ -39,7 +39,7 @@ looked_on u v w first second = record {
 }
 
 -- the first that is behind, after looks at those before it
-pub first_behind : (u v w : WriterView) (least sampler holds : ℕ) → HasLooked u v → HasLooked v w → sampler < u.sizes.samplers
+pub first_behind : (u v w : WriterView) (least sampler holds : ℕ) → HasOnlyLooked u v → HasOnlyLooked v w → sampler < u.sizes.samplers
     → ((k : ℕ) → k < sampler → least ≤ floor_of v k) → IsBehind v w least sampler holds → IsFirstBehind u w least sampler holds
 first_behind u v w least sampler holds first second inside reached h = record {
   inside = inside;

@@ -9,7 +9,7 @@ use Rattle.vt_grace.specs.declared.sizes.Sizes.{Sizes}
 use Rattle.vt_grace.specs.declared.views.WriterView.{WriterView}
 use Rattle.vt_grace.specs.WriterViews.{version_of}
 use Rattle.vt_grace.specs.Places.{entry_place, bank_of, content_of}
-use Rattle.vt_grace.specs.Banks.{Stands}
+use Rattle.vt_grace.specs.Banks.{StandsForTable}
 
 -- the entry that a change gives its page
 abbrev pub new_entry : Change → ℕ
@@ -17,20 +17,20 @@ new_entry (Map page frame) = frame + 1
 new_entry (Unmap page frame) = 0
 
 -- page and frame of a change are the table's
-pub record IsInside (z : Sizes) (change : Change) : Type 0 where
+pub record IsChangeInside (z : Sizes) (change : Change) : Type 0 where
   pub page_inside : change_page change < z.pages
   pub frame_inside : change_frame change < z.frames
 
 -- and those of each change
-abbrev pub AreInside : Sizes → List Change → Type 0
-AreInside z changes = (v : ℕ) (change : Change) → slice_get changes v ≡ Some change → IsInside z change
+abbrev pub AreChangesInside : Sizes → List Change → Type 0
+AreChangesInside z changes = (v : ℕ) (change : Change) → slice_get changes v ≡ Some change → IsChangeInside z change
 
 -- the four banks are those of the newest four versions, where a version before 0 maps nothing
 abbrev pub AreRotated : WriterView → Type 0
-AreRotated w = (i : ℕ) → i < 4 → Stands w.sizes w.entries (at w.journal (version_of w - i)) (bank_of (version_of w + 4 - i))
+AreRotated w = (i : ℕ) → i < 4 → StandsForTable w.sizes w.entries (at w.journal (version_of w - i)) (bank_of (version_of w + 4 - i))
 
 -- only the bank of the next version was written
-pub record HasEntered (v w : WriterView) : Type 0 where
+pub record HasWrittenBank (v w : WriterView) : Type 0 where
   pub rest : w ≡ record v { entries = w.entries }
   pub others : (bank page : ℕ) → bank ≢ bank_of (version_of v + 1) → page < v.sizes.pages
       → slice_index w.entries (entry_place v.sizes bank page) ≡ slice_index v.entries (entry_place v.sizes bank page)

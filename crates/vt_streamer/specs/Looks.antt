@@ -5,7 +5,7 @@ use Rattle.vt_grace.specs.declared.views.WriterView.{WriterView}
 use Rattle.vt_grace.specs.WriterViews.{floor_of}
 
 -- only looks were made, by which no floor fell
-pub record HasLooked (v w : WriterView) : Type 0 where
+pub record HasOnlyLooked (v w : WriterView) : Type 0 where
   pub rest : w ≡ record v { floors = w.floors; looks = w.looks }
   pub up : (k : ℕ) → floor_of v k ≤ floor_of w k
   pub more : List Look

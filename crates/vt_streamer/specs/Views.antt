@@ -22,8 +22,8 @@ abbrev pub with_room : StreamerView → ℕ → StreamerView
 with_room v room = record v { spare = room }
 
 -- its page table, as that of a table that changes only between draws; the frames hold words here, and no bytes of tiles
-abbrev pub table_of : StreamerView → TableView
-table_of v = record {
+abbrev pub streamer_table : StreamerView → TableView
+streamer_table v = record {
   shape = v.shape;
   frames = length v.owners;
   changes = v.writer.journal;
@@ -39,4 +39,4 @@ pub record IsStreamerOf (words : WordsValue) (v : StreamerView) : Type 0 where
   pub sizes : words.sizes ≡ sizes_of v.shape (length v.owners) words.sizes.samplers
   pub limits : AreWithinLimits words.sizes
   pub sound : IsSound v.writer
-  pub lawful : IsTable (table_of v)
+  pub lawful : IsTable (streamer_table v)

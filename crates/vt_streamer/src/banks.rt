@@ -7,10 +7,10 @@ ghost use Rattle.vt_table.specs.Lookups.{change_page};
 ghost use Rattle.vt_grace.specs.Changes.{IsNextKeeping};
 ghost use Rattle.vt_grace.specs.WriterViews.{version_of, after_entry};
 ghost use Rattle.vt_grace.specs.Places.{bank_of};
-ghost use Rattle.vt_grace.specs.Banks.{MayWriteNext, Stands};
+ghost use Rattle.vt_grace.specs.Banks.{MayWriteNext, StandsForTable};
 ghost use Rattle.vt_grace.specs.Sound.{IsSound};
 ghost use Rattle.vt_grace.specs.Tokens.{IsWriterOf};
-ghost use Rattle.vt_streamer.specs.Banks.{new_entry, IsInside, AreInside, AreRotated, HasEntered, HasPublished};
+ghost use Rattle.vt_streamer.specs.Banks.{new_entry, IsChangeInside, AreChangesInside, AreRotated, HasWrittenBank, HasPublished};
 ghost use Rattle.vt_streamer.specs.Latests.{AreLatest};
 
 use crate::latest::{Latest, change_back};
@@ -21,7 +21,7 @@ use vt_table::Change;
 fn advance(words: &Words, writer: &mut WriterSeat, change: Change)
     requires of { IsWriterOf words.now writer.old }
     requires may { MayWriteNext writer.old.view }
-    requires inside { IsInside words.now.sizes change }
+    requires inside { IsChangeInside words.now.sizes change }
     ensures of { IsWriterOf words.now writer.new }
     ensures sound { IsSound writer.new.view }
     ensures view { writer.new.view ≡ after_entry writer.old.view (change_page change) (new_entry change) }
@@ -38,16 +38,16 @@ fn lead_on(words: &Words, writer: &mut WriterSeat, latest: &Latest, from: u64, v
     requires sound { IsSound writer.old.view }
     requires may { MayWriteNext writer.old.view }
     requires latest { AreLatest writer.old.view.journal latest.now }
-    requires inside { AreInside words.now.sizes writer.old.view.journal }
+    requires inside { AreChangesInside words.now.sizes writer.old.view.journal }
     requires version { version ≡ version_of writer.old.view }
     requires from { from ≤ version }
     requires few { version ≤ from + 3 }
-    requires stands { Stands words.now.sizes writer.old.view.entries (at writer.old.view.journal from)
+    requires stands { StandsForTable words.now.sizes writer.old.view.entries (at writer.old.view.journal from)
         (bank_of (version_of writer.old.view + 1)) }
     ensures of { IsWriterOf words.now writer.new }
     ensures sound { IsSound writer.new.view }
-    ensures entered { HasEntered writer.old.view writer.new.view }
-    ensures stands { Stands words.now.sizes writer.new.view.entries (newest writer.old.view.journal)
+    ensures entered { HasWrittenBank writer.old.view writer.new.view }
+    ensures stands { StandsForTable words.now.sizes writer.new.view.entries (newest writer.old.view.journal)
         (bank_of (version_of writer.old.view + 1)) }
 {
     for made in from..version {
@@ -61,10 +61,10 @@ pub(crate) fn put_next(words: &Words, writer: &mut WriterSeat, latest: &Latest, 
     requires sound { IsSound writer.old.view }
     requires may { MayWriteNext writer.old.view }
     requires latest { AreLatest writer.old.view.journal latest.now }
-    requires all { AreInside words.now.sizes writer.old.view.journal }
+    requires all { AreChangesInside words.now.sizes writer.old.view.journal }
     requires rotated { AreRotated writer.old.view }
     requires next { IsNextKeeping words.now.sizes.root (newest writer.old.view.journal) change }
-    requires inside { IsInside words.now.sizes change }
+    requires inside { IsChangeInside words.now.sizes change }
     requires room { version_of writer.old.view < most_versions }
     ensures of { IsWriterOf words.now writer.new }
     ensures sound { IsSound writer.new.view }

@@ -4,7 +4,7 @@ ghost use Rattle.std.specs.Prelude.{◌≡◌, ℕ, ◌<◌, ◌≤◌, false, I
 ghost use Rattle.vt_grace.specs.WriterViews.{raised, floor_of, version_of, is_out};
 ghost use Rattle.vt_grace.specs.Sound.{IsSound};
 ghost use Rattle.vt_grace.specs.Tokens.{IsWriterOf};
-ghost use Rattle.vt_streamer.specs.Looks.{HasLooked, IsBehind, IsFirstBehind};
+ghost use Rattle.vt_streamer.specs.Looks.{HasOnlyLooked, IsBehind, IsFirstBehind};
 
 use vt_grace::{Words, WriterSeat};
 
@@ -46,7 +46,7 @@ fn reach(
     ensures of { IsWriterOf words.now writer.new }
     ensures sound { IsSound writer.new.view }
     ensures floors { floors.new ≡ writer.new.view.floors }
-    ensures looked { HasLooked writer.old.view writer.new.view }
+    ensures looked { HasOnlyLooked writer.old.view writer.new.view }
     ensures reached { IfNone result (least ≤ floor_of writer.new.view sampler) }
     ensures waiting { IfSome result (λ w. (w.sampler ≡ sampler) × IsBehind writer.old.view writer.new.view least sampler w.holds) }
     ensures idle { is_out writer.old.view sampler ≡ false → IsNone result }
@@ -84,7 +84,7 @@ pub(crate) fn reach_all(
     ensures of { IsWriterOf words.now writer.new }
     ensures sound { IsSound writer.new.view }
     ensures floors { floors.new ≡ writer.new.view.floors }
-    ensures looked { HasLooked writer.old.view writer.new.view }
+    ensures looked { HasOnlyLooked writer.old.view writer.new.view }
     ensures reached { IfNone result ((k : ℕ) → k < samplers → least ≤ floor_of writer.new.view k) }
     ensures waiting { IfSome result (λ w. IsFirstBehind writer.old.view writer.new.view least w.sampler w.holds) }
     ensures idle { ((k : ℕ) → is_out writer.old.view k ≡ false) → IsNone result }

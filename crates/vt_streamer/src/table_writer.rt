@@ -4,18 +4,18 @@ ghost use Rattle.std.specs.Prelude.{◌≡◌, ◌≢◌, ℕ, ◌-◌, ◌<◌,
 ghost use Rattle.vt_definitions.specs.Limits.{most_samplers, most_frames, most_frame_texels, most_versions};
 ghost use Rattle.vt_table.specs.Pages.{pages_of};
 ghost use Rattle.vt_table.specs.Changes.{newest, nothing_mapped, IsFree, IsLegalNext};
-ghost use Rattle.vt_table.specs.Views.{filled_for, filled_after, IsReady, IsWithin, IsTile};
+ghost use Rattle.vt_table.specs.Views.{filled_for, filled_after, IsReady, IsTableChange, IsTile};
 ghost use Rattle.vt_grace.specs.Sizes.{sizes_of};
 ghost use Rattle.vt_grace.specs.Places.{frame_words};
 ghost use Rattle.vt_grace.specs.WriterViews.{first_writer, version_of, is_out, after_look};
 ghost use Rattle.vt_grace.specs.Giving.{after_giving, after_return, new_pass};
 ghost use Rattle.vt_grace.specs.Banks.{MayWriteNext, MayFill};
 ghost use Rattle.vt_grace.specs.Tokens.{IsPassOf};
-ghost use Rattle.vt_streamer.specs.Looks.{HasLooked, IsFirstBehind};
+ghost use Rattle.vt_streamer.specs.Looks.{HasOnlyLooked, IsFirstBehind};
 ghost use Rattle.vt_streamer.specs.Banks.{HasPublished};
 ghost use Rattle.vt_streamer.specs.Fills.{words_in};
 ghost use Rattle.vt_streamer.specs.Frees.{IsFreeFrom, IsUnmappedBy};
-ghost use Rattle.vt_streamer.specs.Views.{StreamerView, table_of, IsStreamerOf};
+ghost use Rattle.vt_streamer.specs.Views.{StreamerView, streamer_table, IsStreamerOf};
 
 use crate::banks::put_next;
 use crate::fills::fill_frame;
@@ -49,13 +49,13 @@ pub struct TableWriter {
 
 impl Model for TableWriter {
     ghost use Rattle.vt_streamer.specs.Views.{StreamerView};
-    ghost use Rattle.vt_streamer.specs.Kept.{view_of, IsKept};
+    ghost use Rattle.vt_streamer.specs.Kept.{streamer_view_of, IsStreamerKept};
 
     ghost Value = { StreamerView };
 
-    ghost view = { λ s. view_of s.geometry s.seat s.owners.items };
+    ghost view = { λ s. streamer_view_of s.geometry s.seat s.owners.items };
 
-    ghost invariant = { λ s. IsKept (view_of s.geometry s.seat s.owners.items)
+    ghost invariant = { λ s. IsStreamerKept (streamer_view_of s.geometry s.seat s.owners.items)
         s.samplers s.latest s.entries.items s.floors.items s.unmapped.items };
 }
 
@@ -77,7 +77,7 @@ impl TableWriter {
         ensures sizes { IfOk result (λ made. made.0.sizes ≡ sizes_of geometry.now frames samplers) }
         ensures shape { IfOk result (λ made. made.1.shape ≡ geometry.now) }
         ensures writer { IfOk result (λ made. made.1.writer ≡ first_writer (sizes_of geometry.now frames samplers)) }
-        ensures unfilled { IfOk result (λ made. filled_for (table_of made.1) ≡ nothing_mapped) }
+        ensures unfilled { IfOk result (λ made. filled_for (streamer_table made.1) ≡ nothing_mapped) }
     {
         let (words, seat) = Words::new(alloc, geometry, frames, samplers)?;
         let entries = Vec::from_elem(alloc, 0, geometry.page_count() as usize)?;
@@ -107,7 +107,7 @@ impl TableWriter {
         requires inside { frame < length self.old.owners }
         requires free { IsFree (newest self.old.writer.journal) frame }
         ensures of { IsStreamerOf words.now self.new }
-        ensures looked { HasLooked self.old.writer self.new.writer }
+        ensures looked { HasOnlyLooked self.old.writer self.new.writer }
         ensures rest { self.new ≡ record self.old { writer = self.new.writer } }
         ensures may { OnOk result (MayFill self.new.writer frame) }
         ensures waiting { IfErr result (λ w. (version : ℕ) × IsUnmappedBy self.old.writer.journal frame version
@@ -135,8 +135,8 @@ impl TableWriter {
         ensures content { frame_words words.now.sizes self.new.writer.texels frame ≡ words_in self.old.shape tile.now }
         ensures other_contents { (f : ℕ) → f < length self.old.owners → f ≢ frame
             → frame_words words.now.sizes self.new.writer.texels f ≡ frame_words words.now.sizes self.old.writer.texels f }
-        ensures filled { filled_for (table_of self.new) frame ≡ Some page }
-        ensures other_pages { (f : ℕ) → f ≢ frame → filled_for (table_of self.new) f ≡ filled_for (table_of self.old) f }
+        ensures filled { filled_for (streamer_table self.new) frame ≡ Some page }
+        ensures other_pages { (f : ℕ) → f ≢ frame → filled_for (streamer_table self.new) f ≡ filled_for (streamer_table self.old) f }
         ensures rest { self.new ≡ record self.old {
           writer = record self.old.writer { texels = self.new.writer.texels };
           owners = self.new.owners;
@@ -155,15 +155,15 @@ impl TableWriter {
     pub fn try_publish(&mut self, words: &Words, change: Change) -> Result<u64, Waiting>
         requires of { IsStreamerOf words.now self.old }
         requires room { version_of self.old.writer < most_versions }
-        requires within { IsWithin (table_of self.old) change }
+        requires within { IsTableChange (streamer_table self.old) change }
         requires legal { IsLegalNext self.old.shape (newest self.old.writer.journal) change }
-        requires ready { IsReady (table_of self.old) change }
+        requires ready { IsReady (streamer_table self.old) change }
         ensures of { IsStreamerOf words.now self.new }
         ensures version { IfOk result (λ version. version ≡ version_of self.new.writer) }
         ensures published { OnOk result (HasPublished self.old.writer self.new.writer change) }
-        ensures filled { OnOk result (filled_for (table_of self.new) ≡ filled_after (filled_for (table_of self.old)) change) }
+        ensures filled { OnOk result (filled_for (streamer_table self.new) ≡ filled_after (filled_for (streamer_table self.old)) change) }
         ensures shape { self.new.shape ≡ self.old.shape }
-        ensures refused { OnErr result (HasLooked self.old.writer self.new.writer) }
+        ensures refused { OnErr result (HasOnlyLooked self.old.writer self.new.writer) }
         ensures unchanged { OnErr result (self.new ≡ record self.old { writer = self.new.writer }) }
         ensures waiting { IfErr result (λ w.
             IsFirstBehind self.old.writer self.new.writer (version_of self.old.writer - 2) w.sampler w.holds) }
@@ -182,13 +182,13 @@ impl TableWriter {
         requires of { IsStreamerOf words.now self.old }
         requires may { MayWriteNext self.old.writer }
         requires room { version_of self.old.writer < most_versions }
-        requires within { IsWithin (table_of self.old) change }
+        requires within { IsTableChange (streamer_table self.old) change }
         requires legal { IsLegalNext self.old.shape (newest self.old.writer.journal) change }
-        requires ready { IsReady (table_of self.old) change }
+        requires ready { IsReady (streamer_table self.old) change }
         ensures of { IsStreamerOf words.now self.new }
         ensures version { result ≡ version_of self.new.writer }
         ensures published { HasPublished self.old.writer self.new.writer change }
-        ensures filled { filled_for (table_of self.new) ≡ filled_after (filled_for (table_of self.old)) change }
+        ensures filled { filled_for (streamer_table self.new) ≡ filled_after (filled_for (streamer_table self.old)) change }
         ensures shape { self.new.shape ≡ self.old.shape }
     {
         let version = self.seat.version() + 1;

@@ -20,7 +20,7 @@ use Rattle.vt_requests.proofs.Streaming.{entry_stays}
 use Rattle.vt_requests.specs.BatchRounds.{result_group, result_events, AreLossesOf}
 use Rattle.vt_requests.specs.declared.report.StreamReport.{StreamReport}
 use Rattle.vt_streaming.specs.Made.{HasMade, HasStreamed, result_contents, results_contents}
-use Rattle.vt_streaming.specs.Reports.{HasNoted, IsUnderWay}
+use Rattle.vt_streaming.specs.Reports.{HasNotedResult, IsUnderWay}
 use Rattle.vt_requests.specs.BlankReports.{IsBlank}
 use Rattle.vt_streaming.proofs.Making.{made_none, made_both}
 use Rattle.vt_streaming.proofs.Taking.{flag_was, flag_set}
@@ -35,7 +35,7 @@ module _ (batch : List Planned) (start : StreamerView)
         frames = refl;
         streamed = made_none start.writer;
         events = sym (append-nil r.events.elements);
-        losses = record { told = blank.losses; each = All-nil (λ (x : Loaded). slice_index_or r.losses.elements x.request.ticket true ≡ is_lost x.outcome) };
+        losses = record { reported = blank.losses; each = All-nil (λ (x : Loaded). slice_index_or r.losses.elements x.request.ticket true ≡ is_lost x.outcome) };
         tiles = All-nil (λ (x : Loaded). IsTile start.shape x.request.buffer.elements);
         ahead = λ k e is free. subst (IsEntryFor start.shape (length start.owners) (newest start.writer.journal)) (get_or_from_slice_get batch k e e is)
             (lawful.each k e (slice_get_within batch k e is));
@@ -66,19 +66,19 @@ module _ (batch : List Planned) (start : StreamerView)
   losses_more : (results : List Loaded) (losses taken : List Bool) (x : Loaded) → AreLossesOf batch results losses
       → All (λ y. slice_index_or taken y.request.ticket false ≡ true) results → get_or taken x.request.ticket false ≡ false
       → x.request.ticket < length batch → AreLossesOf batch (results ++ x ∷ []) (set losses x.request.ticket (is_lost x.outcome))
-  losses_more results losses taken x h marked new inside = let t = x.request.ticket in let lost = is_lost x.outcome in let told = h.told in record {
-    told = length-set losses t lost ∙ h.told;
+  losses_more results losses taken x h marked new inside = let t = x.request.ticket in let lost = is_lost x.outcome in let reported = h.reported in record {
+    reported = length-set losses t lost ∙ h.reported;
     each = All-push (λ (y : Loaded). get_or (set losses t lost) y.request.ticket true ≡ is_lost y.outcome) results x
         (λ k d low. get_or-set_other losses t (get_or results k d).request.ticket lost true
         (λ same. false≢true (sym new ∙ ap (λ (n : ℕ). get_or taken n false) (sym same) ∙ marked k d low)) ∙ h.each k d low)
-        (get_or-set_same losses t lost true (omega (arith, told, inside)));
+        (get_or-set_same losses t lost true (omega (arith, reported, inside)));
   }
 
   pub under_way : (v w : StreamerView) (before : List Event) (r q : StreamReport) (x : Loaded) → IsUnderWay batch start v before r
       → All (λ y. slice_index_or r.taken.elements y.request.ticket false ≡ true) r.results.elements
       → get_or r.taken.elements x.request.ticket false ≡ false → x.request.ticket < length batch → length r.taken.elements ≡ length batch
       → HasMade (result_group batch x) (result_contents v.shape batch x) v.writer w.writer → w.shape ≡ v.shape → length w.owners ≡ length v.owners
-      → HasNoted batch x r q → IsTile start.shape x.request.buffer.elements → IsUnderWay batch start w before q
+      → HasNotedResult batch x r q → IsTile start.shape x.request.buffer.elements → IsUnderWay batch start w before q
   under_way v w before r q x h marked new inside flags made shape frames noted tile =
       let t : ℕ = x.request.ticket in
       let e : Planned = get_or batch t (record { page = 0; frame = 0; victim = None }) in

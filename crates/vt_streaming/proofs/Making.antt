@@ -9,8 +9,8 @@ use Rattle.vt_journal.proofs.EventLines.{changes_of-append}
 use Rattle.vt_streamer.specs.GraceTypes.views.WriterView.{WriterView}
 use Rattle.vt_streamer.specs.Places.{content_of}
 use Rattle.vt_streamer.specs.Banks.{HasPublished}
-use Rattle.vt_streamer.specs.Looks.{HasLooked}
-use Rattle.vt_streamer.specs.Views.{StreamerView, table_of, IsStreamerOf}
+use Rattle.vt_streamer.specs.Looks.{HasOnlyLooked}
+use Rattle.vt_streamer.specs.Views.{StreamerView, streamer_table, IsStreamerOf}
 use Rattle.vt_streamer.specs.GraceTypes.sizes.Sizes.{Sizes}
 use Rattle.vt_streamer.specs.Values.{WordsValue}
 use Rattle.vt_requests.specs.Streams.{Publishes}
@@ -61,14 +61,14 @@ made_both es fs xs ys u v w a b = record {
 }
 
 -- a streamer that looked, and then looked again
-pub looked_more : (u v w : StreamerView) → v ≡ after_looks u v.writer → HasLooked v.writer w.writer → w ≡ record v { writer = w.writer }
+pub looked_more : (u v w : StreamerView) → v ≡ after_looks u v.writer → HasOnlyLooked v.writer w.writer → w ≡ record v { writer = w.writer }
     → w ≡ after_looks u w.writer
 looked_more u v w a looked rest = rest ∙ ap (λ (x : WriterView). record v { writer = x }) looked.rest
     ∙ ap (λ (x : StreamerView). record x { writer = record x.writer { floors = w.writer.floors; looks = w.writer.looks } }) a
 
 -- what was made, as the changes of a table
 pub publishes : (v : StreamerView) (w : WriterView) (events : List Event) (brought : List (List ℕ)) → HasMade events brought v.writer w
-    → Publishes events (table_of v) (record (table_of v) { changes = w.journal }) [] events
+    → Publishes events (streamer_table v) (record (streamer_table v) { changes = w.journal }) [] events
 publishes v w events brought h = record { changes = h.journal; events = refl; shape = refl; frames = refl }
 
 -- streamers of the same words have as many frames

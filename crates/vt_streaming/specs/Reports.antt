@@ -13,7 +13,7 @@ use Rattle.vt_requests.specs.declared.report.StreamReport.{StreamReport}
 use Rattle.vt_streaming.specs.Made.{HasStreamed}
 
 -- a result was noted: the events of its group, whether it is lost, that it was taken, and the result itself
-pub record HasNoted (batch : List Planned) (result : Loaded) (r t : StreamReport) : Type 0 where
+pub record HasNotedResult (batch : List Planned) (result : Loaded) (r t : StreamReport) : Type 0 where
   pub events : t.events.elements ≡ r.events.elements ++ result_group batch result
   pub losses : t.losses.elements ≡ slice_set r.losses.elements result.request.ticket (is_lost result.outcome)
   pub taken : t.taken.elements ≡ slice_set r.taken.elements result.request.ticket true

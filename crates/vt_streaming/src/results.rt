@@ -10,7 +10,7 @@ ghost use Rattle.vt_requests.specs.Outcomes.{IsEntryFor, group_of};
 ghost use Rattle.vt_requests.specs.BatchRounds.{result_group};
 ghost use Rattle.vt_streaming.specs.Made.{HasMade, group_contents, result_contents};
 ghost use Rattle.vt_requests.specs.TakenResults.{is_new, is_tile_length, is_wanted};
-ghost use Rattle.vt_streaming.specs.Reports.{HasNoted};
+ghost use Rattle.vt_streaming.specs.Reports.{HasNotedResult};
 
 use crate::entries::put_entry;
 use std::sync::Wait;
@@ -109,7 +109,7 @@ pub(crate) fn stream_result<Rt: Wait, G: Gate>(
         streamer.old.writer streamer.new.writer }
     ensures shape { streamer.new.shape ≡ streamer.old.shape }
     ensures spare { streamer.old.spare ≤ streamer.new.spare + 2 }
-    ensures noted { HasNoted batch.now loaded into.old into.new }
+    ensures noted { HasNotedResult batch.now loaded into.old into.new }
 {
     let ticket = loaded.request.ticket as usize;
     let planned = &batch[ticket];

@@ -3,7 +3,7 @@
 ghost use Rattle.std.specs.Prelude.{◌≡◌, ◌+◌, ◌*◌, ◌<◌, ◌≤◌, ◌^◌, ◌++◌, length, All};
 ghost use Rattle.vt_journal.specs.Changes.{newest};
 ghost use Rattle.vt_streamer.specs.TableViews.{IsTile};
-ghost use Rattle.vt_queue.specs.Queues.{view_of, splits_of, IsOf};
+ghost use Rattle.vt_queue.specs.Queues.{queue_view_of, queue_splits_of, IsPassOfQueue};
 ghost use Rattle.vt_streamer.specs.Views.{IsStreamerOf};
 ghost use Rattle.vt_requests.specs.Outcomes.{IsBatchFor};
 ghost use Rattle.vt_requests.specs.BatchRounds.{result_events, AreLossesOf};
@@ -36,15 +36,15 @@ pub fn stream_batch<Rt: Threads + Wait, G: Gate>(
     gate: &G,
 )
     requires streamer { IsStreamerOf words.now streamer.old }
-    requires answers { IsOf results.now answers.old }
+    requires answers { IsPassOfQueue results.now answers.old }
     requires lawful { IsBatchFor streamer.old.shape (length streamer.old.owners) (newest streamer.old.writer.journal)
         batch.now }
     requires few { length batch.now < 2 ^ 32 }
     requires spare { 2 * length batch.now ≤ streamer.old.spare }
     requires report { IsBlank (length batch.now) into.old }
     ensures streamer { IsStreamerOf words.now streamer.new }
-    ensures answers { IsOf results.now answers.new × (splits_of answers.new ≡ splits_of answers.old) }
-    ensures took { Streams (length batch.now) (view_of answers.old) (view_of answers.new) into.new.taken.elements
+    ensures answers { IsPassOfQueue results.now answers.new × (queue_splits_of answers.new ≡ queue_splits_of answers.old) }
+    ensures took { Streams (length batch.now) (queue_view_of answers.old) (queue_view_of answers.new) into.new.taken.elements
         into.new.results.elements }
     ensures all { length into.new.results.elements ≡ length batch.now }
     ensures streamed { HasStreamed streamer.old.shape batch.now into.new.results.elements streamer.old.writer

@@ -3,12 +3,12 @@
 ghost use Rattle.std.specs.Prelude.{◌≡◌, ◌+◌, ◌<◌, ◌≤◌, [], ◌∷◌, length};
 ghost use Rattle.vt_journal.specs.declared.changes.Event.TheVariants.{Changed};
 ghost use Rattle.vt_journal.specs.Changes.{newest, IsFree, IsLegalNext};
-ghost use Rattle.vt_streamer.specs.TableViews.{filled_for, filled_after, IsReady, IsWithin};
+ghost use Rattle.vt_streamer.specs.TableViews.{filled_for, filled_after, IsReady, IsTableChange};
 ghost use Rattle.vt_streamer.specs.Places.{content_of};
 ghost use Rattle.vt_streamer.specs.GraceBanks.{MayFill};
-ghost use Rattle.vt_streamer.specs.Views.{table_of, IsStreamerOf};
+ghost use Rattle.vt_streamer.specs.Views.{streamer_table, IsStreamerOf};
 ghost use Rattle.vt_queue.specs.Steps.{Takes};
-ghost use Rattle.vt_queue.specs.Queues.{view_of, splits_of, IsOf};
+ghost use Rattle.vt_queue.specs.Queues.{queue_view_of, queue_splits_of, IsPassOfQueue};
 ghost use Rattle.vt_streaming.specs.Made.{HasMade, after_looks};
 
 use crate::pause::pause;
@@ -25,9 +25,9 @@ pub fn take_result<Rt: Threads + Wait>(
     results: &ResultQueue,
     answers: &mut QueuePass<Loaded>,
 ) -> Loaded
-    requires of { IsOf results.now answers.old }
-    ensures of { IsOf results.now answers.new × (splits_of answers.new ≡ splits_of answers.old) }
-    ensures takes { Takes (view_of answers.old) result (view_of answers.new) }
+    requires of { IsPassOfQueue results.now answers.old }
+    ensures of { IsPassOfQueue results.now answers.new × (queue_splits_of answers.new ≡ queue_splits_of answers.old) }
+    ensures takes { Takes (queue_view_of answers.old) result (queue_view_of answers.new) }
 {
     let mut pauses = 0;
     for _ in rt.forever() {
@@ -68,13 +68,13 @@ pub(crate) fn publish<Rt: Wait, G: Gate>(
 )
     requires of { IsStreamerOf words.now streamer.old }
     requires room { 1 ≤ streamer.old.spare }
-    requires within { IsWithin (table_of streamer.old) change }
+    requires within { IsTableChange (streamer_table streamer.old) change }
     requires legal { IsLegalNext streamer.old.shape (newest streamer.old.writer.journal) change }
-    requires ready { IsReady (table_of streamer.old) change }
+    requires ready { IsReady (streamer_table streamer.old) change }
     ensures of { IsStreamerOf words.now streamer.new }
     ensures made { HasMade (Changed change ∷ []) (content_of words.now.sizes streamer.old.writer.texels change ∷ [])
         streamer.old.writer streamer.new.writer }
-    ensures filled { filled_for (table_of streamer.new) ≡ filled_after (filled_for (table_of streamer.old)) change }
+    ensures filled { filled_for (streamer_table streamer.new) ≡ filled_after (filled_for (streamer_table streamer.old)) change }
     ensures shape { streamer.new.shape ≡ streamer.old.shape }
     ensures spare { streamer.old.spare ≤ streamer.new.spare + 1 }
 {

@@ -6,7 +6,7 @@ use mathlib.Core.List.{IsPrefix}
 use Rattle.vt_swap_steps.specs.LogTypes.records.LogRecord.{LogRecord}
 use Rattle.vt_swap_steps.specs.declared.table.NewestTable.{NewestTable}
 use Rattle.vt_swap_steps.specs.Logs.{changes_in}
-use Rattle.vt_swap_steps.specs.Tables.{IsTable}
+use Rattle.vt_swap_steps.specs.Tables.{IsNewestTable}
 use Rattle.vt_swap.specs.Readers.{ReaderView, HasEnteredMore, WasEntered}
 use Rattle.vt_swap_steps.proofs.Prefixes.{prefix_self, prefix_trans, prefix_length}
 use Rattle.vt_swap_steps.proofs.Lawful.{changes_prefix}
@@ -53,7 +53,7 @@ was_later r q s more version one two = record {
 }
 
 -- the version of a table is one of the journal that a log tells which goes on where the table's ends
-pub version_known : (t : NewestTable) (log : List LogRecord) → IsTable t → IsPrefix t.front.seen.log log → t.version ≤ length (changes_in log)
+pub version_known : (t : NewestTable) (log : List LogRecord) → IsNewestTable t → IsPrefix t.front.seen.log log → t.version ≤ length (changes_in log)
 version_known t log table seen =
     omega (arith, table.version_is, prefix_length (changes_in t.front.seen.log) (changes_in log) (changes_prefix t.front.seen.log log seen))
 

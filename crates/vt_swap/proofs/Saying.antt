@@ -10,11 +10,11 @@ use Rattle.vt_journal.proofs.Versions.{at-front}
 use Rattle.vt_swap_steps.specs.LogTypes.records.LogRecord.{LogRecord}
 use Rattle.vt_swap_steps.specs.declared.table.NewestTable.{NewestTable}
 use Rattle.vt_swap_steps.specs.Logs.{changes_in}
-use Rattle.vt_swap_steps.specs.Told.{HasWord, IsEntry}
+use Rattle.vt_swap_steps.specs.LogWords.{HasWord, IsEntry}
 use Rattle.vt_swap.specs.Notes.{IsWord, IsSaidBy}
 use Rattle.vt_pages.specs.Pages.{ancestor_of}
 use Rattle.vt_pictures.specs.DrawTypes.lookups.Found.{Found}
-use Rattle.vt_pictures.specs.DrawLookups.{IsFinest}
+use Rattle.vt_pictures.specs.DrawLookups.{IsFinestFound}
 use Rattle.vt_swap.specs.Readers.{LookupView, IsLookup, IsSaidIn}
 use Rattle.vt_swap_steps.proofs.Prefixes.{prefix_get, prefix_length}
 use Rattle.vt_swap_steps.proofs.Lawful.{changes_prefix}
@@ -72,7 +72,7 @@ word_said rs ss version frame page place word pre entry has =
 
 -- a page that was found by what a table says is found by what a look-up in it says
 pub finest_said : (v : LookupView) (page : ℕ) (found : Found) → IsLookup v
-    → IsFinest v.shape v.table.version (IsSaidBy v.table.front.seen.log) page found → IsFinest v.shape v.table.version (IsSaidIn v) page found
+    → IsFinestFound v.shape v.table.version (IsSaidBy v.table.front.seen.log) page found → IsFinestFound v.shape v.table.version (IsSaidIn v) page found
 finest_said v page found lookup is =
     let on : (note : Note) → IsSaidBy v.table.front.seen.log note → IsSaidIn v note = λ note said none.
     said_on v.table.front.seen.log v.log note lookup.seen said in
@@ -86,7 +86,7 @@ finest_said v page found lookup is =
     }
 
 pub if_finest : (v : LookupView) (page : ℕ) (o : Option Found) → IsLookup v
-    → IfSome o (IsFinest v.shape v.table.version (IsSaidBy v.table.front.seen.log) page) → IfSome o (IsFinest v.shape v.table.version (IsSaidIn v) page)
+    → IfSome o (IsFinestFound v.shape v.table.version (IsSaidBy v.table.front.seen.log) page) → IfSome o (IsFinestFound v.shape v.table.version (IsSaidIn v) page)
 if_finest v page None lookup is = is
 if_finest v page (Some found) lookup is = finest_said v page found lookup is
 

@@ -5,7 +5,7 @@ use Rattle.vt_pictures.specs.DrawLookups.{Note, EntryNote, WordNote}
 use Rattle.vt_journal.specs.Changes.{at}
 use Rattle.vt_swap_steps.specs.LogTypes.records.LogRecord.{LogRecord}
 use Rattle.vt_swap_steps.specs.Logs.{changes_in}
-use Rattle.vt_swap_steps.specs.Told.{HasWord, IsEntry}
+use Rattle.vt_swap_steps.specs.LogWords.{HasWord, IsEntry}
 
 -- a version of the log's journal maps a page to a frame, and the frame was filled with a tile of that page that has the word at a place
 pub record IsWord (log : List LogRecord) (version frame place word : ℕ) : Type 0 where

@@ -8,7 +8,7 @@ use Rattle.vt_swap_steps.specs.declared.table.NewestTable.{NewestTable}
 use Rattle.vt_swap_steps.specs.LogTypes.frame.FrameKey.{FrameKey}
 use Rattle.vt_swap_steps.specs.Logs.{changes_in}
 use Rattle.vt_swap_steps.specs.Caches.{Cache}
-use Rattle.vt_swap_steps.specs.Tables.{IsTable}
+use Rattle.vt_swap_steps.specs.Tables.{IsNewestTable}
 use Rattle.vt_swap_steps.specs.Slots.{AreSlotsOf}
 use Rattle.vt_swap.specs.Notes.{IsSaidBy}
 
@@ -44,7 +44,7 @@ pub record LookupView : Type 0 where
 
 -- what holds of every look-up
 pub record IsLookup (v : LookupView) : Type 0 where
-  pub table : IsTable v.table
+  pub table : IsNewestTable v.table
   pub seen : IsPrefix v.table.front.seen.log v.log
   pub slots_are : AreSlotsOf v.cache v.slots
 

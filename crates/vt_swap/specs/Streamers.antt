@@ -20,8 +20,8 @@ pub record StreamerView : Type 0 where
   pub broken : Bool
 
 -- the journal is that of the log, where the writer was not refused memory in between
-abbrev pub IsWhole : StreamerView → Type 0
-IsWhole v = v.broken ≡ false → changes_in v.log ≡ v.journal
+abbrev pub IsJournalWhole : StreamerView → Type 0
+IsJournalWhole v = v.broken ≡ false → changes_in v.log ≡ v.journal
 
 -- the version that readers find is the newest
 abbrev pub IsShown : StreamerView → Type 0
@@ -42,7 +42,7 @@ pub record HasMapped (d texels : ℕ) (tile : List ℕ) (v w : StreamerView) (pa
   pub journal : w.journal ≡ v.journal ++ Map page frame ∷ []
 
 -- memory was refused: the journal is as it was, and so is the log, where the writer goes on
-pub record IsRefused (v w : StreamerView) : Type 0 where
+pub record IsSwapRefused (v w : StreamerView) : Type 0 where
   pub cache : w.cache ≡ v.cache
   pub journal : w.journal ≡ v.journal
   pub log : w.broken ≡ false → w.log ≡ v.log

@@ -7,7 +7,7 @@ ghost use Rattle.vt_pages.specs.Pages.{pages_of};
 ghost use Rattle.vt_pictures.specs.Shots.{shot_row};
 ghost use Rattle.vt_pictures.specs.Evidence.{AreShown, AreRaised};
 ghost use Rattle.vt_swap_steps.specs.Caches.{AreOfOneLog, cache_of};
-ghost use Rattle.vt_swap_steps.specs.Tables.{IsTable};
+ghost use Rattle.vt_swap_steps.specs.Tables.{IsNewestTable};
 ghost use Rattle.vt_swap_steps.specs.Slots.{AreSlotsOf};
 ghost use Rattle.vt_swap.specs.Notes.{IsSaidBy};
 
@@ -26,7 +26,7 @@ pub(crate) fn draw_under<P: Filter>(
     out: &mut [u8],
     counts: &mut [u32],
 ) -> bool
-    requires table { IsTable table.now }
+    requires table { IsNewestTable table.now }
     requires seen { IsPrefix table.now.front.seen.log front.old.seen.log }
     requires slots { AreSlotsOf (cache_of front.old) slots.now }
     requires depth { IsDepth shot.now.depth }

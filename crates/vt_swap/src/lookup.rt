@@ -3,11 +3,11 @@
 ghost use Rattle.std.specs.Prelude.{◌≡◌, ◌+◌, ◌<◌, ◌≤◌, false, IfSome, length};
 ghost use mathlib.Core.List.{IsPrefix};
 ghost use Rattle.vt_pages.specs.Pages.{pages_of, level_of, levels_of, ancestor_of};
-ghost use Rattle.vt_pictures.specs.DrawLookups.{IsFinest};
-ghost use Rattle.vt_swap_steps.specs.Tables.{IsTable};
+ghost use Rattle.vt_pictures.specs.DrawLookups.{IsFinestFound};
+ghost use Rattle.vt_swap_steps.specs.Tables.{IsNewestTable};
 ghost use Rattle.vt_swap_steps.specs.Slots.{AreSlotsOf, IsSlotOf};
 ghost use Rattle.vt_swap_steps.specs.Caches.{Cache, cache_of};
-ghost use Rattle.vt_swap_steps.specs.Told.{HasWord, IsEntry};
+ghost use Rattle.vt_swap_steps.specs.LogWords.{HasWord, IsEntry};
 ghost use Rattle.vt_swap.specs.Notes.{IsSaidBy};
 ghost use Rattle.vt_swap.specs.Readers.{LookupView, IsSaidIn, lookup_base};
 
@@ -71,7 +71,7 @@ impl<'a> SwapLookup<'a> {
         slots: &'a [Slot],
         geometry: &'a Geometry,
     ) -> SwapLookup<'a>
-        requires table { IsTable table.now }
+        requires table { IsNewestTable table.now }
         requires seen { IsPrefix table.now.front.seen.log front.seen.log }
         requires slots { AreSlotsOf (cache_of front) slots.now }
         ensures { result ≡ record {
@@ -116,7 +116,7 @@ impl<'a> SwapLookup<'a> {
     // The finest page that the version maps of a page and its ancestors, if it maps one.
     fn find_mapped(&self, page: u32) -> Option<Found>
         requires { page < pages_of self.now.shape }
-        ensures { IfSome result (IsFinest self.now.shape self.now.table.version (IsSaidIn self.now) page) }
+        ensures { IfSome result (IsFinestFound self.now.shape self.now.table.version (IsSaidIn self.now) page) }
     {
         finest_mapped(self.table, self.geometry, page)
     }
@@ -180,9 +180,9 @@ fn right_to_frame<'a>(slots: &'a [Slot], frame: u32) -> Option<Claim<'a, Frame>>
 // their loop.
 #[inline(never)]
 fn finest_mapped(table: &NewestTable, geometry: &Geometry, page: u32) -> Option<Found>
-    requires table { IsTable table.now }
+    requires table { IsNewestTable table.now }
     requires page { page < pages_of geometry.now }
-    ensures { IfSome result (IsFinest geometry.now table.now.version (IsSaidBy table.now.front.seen.log) page) }
+    ensures { IfSome result (IsFinestFound geometry.now table.now.version (IsSaidBy table.now.front.seen.log) page) }
 {
     let name = geometry.page_at(page);
     for level in name.level..geometry.levels() {

@@ -6,9 +6,9 @@ ghost use Rattle.vt_definitions.specs.Depths.{IsDepth, texel_length};
 ghost use Rattle.vt_pages.specs.Pages.{pages_of};
 ghost use Rattle.vt_pictures.specs.Shots.{shot_row};
 ghost use Rattle.vt_pictures.specs.Evidence.{AreShown, AreRaised};
-ghost use Rattle.vt_swap_steps.specs.Logs.{changes_in, IsLawful};
+ghost use Rattle.vt_swap_steps.specs.Logs.{changes_in, IsLawfulLog};
 ghost use Rattle.vt_swap_steps.specs.Slots.{AreSlotsOf};
-ghost use Rattle.vt_swap_steps.specs.Told.{IsEntry};
+ghost use Rattle.vt_swap_steps.specs.LogWords.{IsEntry};
 ghost use Rattle.vt_swap.specs.Notes.{IsSaidBy};
 ghost use Rattle.vt_swap.specs.Readers.{HasEnteredMore, WasEntered};
 
@@ -44,7 +44,7 @@ impl Model for TableReader {
 
 impl TableReader {
     /// Whether what it has seen of the log is a beginning of what the writer has done.
-    pub fn is_told_by(&self, writer: &SwapStreamer) -> bool
+    pub fn is_known_to(&self, writer: &SwapStreamer) -> bool
         requires { self.now.cache ≡ writer.now.cache }
         ensures { MatchBool result (IsPrefix self.now.log writer.now.log) (IsPrefix writer.now.log self.now.log) }
     {
@@ -53,7 +53,7 @@ impl TableReader {
 
     /// What it has seen of the log is lawful: each record could come after those before it.
     pub fn saw_lawful_log(&self)
-        ensures { IsLawful self.now.log }
+        ensures { IsLawfulLog self.now.log }
     {
         is_lawful(&self.front);
     }

@@ -7,8 +7,8 @@ ghost use Rattle.vt_journal.specs.declared.changes.Change.TheVariants.{Map, Unma
 ghost use Rattle.vt_journal.specs.Changes.{newest, IsNext};
 ghost use Rattle.vt_swap_steps.specs.LogTypes.records.LogRecord.TheVariants.{Changed, Filled};
 ghost use Rattle.vt_swap_steps.specs.Slots.{AreSlotsOf, IsSlotOf};
-ghost use Rattle.vt_swap_steps.specs.Logs.{IsLawful};
-ghost use Rattle.vt_swap.specs.Streamers.{IsWhole, IsShown, HasUnmapped, HasMapped, HasBrought, IsRefused, MayBring};
+ghost use Rattle.vt_swap_steps.specs.Logs.{IsLawfulLog};
+ghost use Rattle.vt_swap.specs.Streamers.{IsJournalWhole, IsShown, HasUnmapped, HasMapped, HasBrought, IsSwapRefused, MayBring};
 
 use crate::layout::lay_out;
 use std::alloc::Global;
@@ -67,8 +67,8 @@ impl SwapStreamer {
     /// refused.
     pub fn is_broken(&self) -> bool
         ensures broken { result ≡ self.now.broken }
-        ensures lawful { IsLawful self.now.log }
-        ensures whole { IsWhole self.now }
+        ensures lawful { IsLawfulLog self.now.log }
+        ensures whole { IsJournalWhole self.now }
         ensures shown { self.now.broken ≡ false → IsShown self.now }
     {
         is_lawful(&self.front);
@@ -84,7 +84,7 @@ impl SwapStreamer {
         ensures unmapped { OnOk result (HasUnmapped self.old self.new page frame) }
         ensures goes_on { OnOk result (self.new.broken ≡ false) }
         ensures shown { OnOk result (IsShown self.new) }
-        ensures refused { OnErr result (IsRefused self.old self.new) }
+        ensures refused { OnErr result (IsSwapRefused self.old self.new) }
     {
         if self.broken {
             return Err(NoMemory);
@@ -122,7 +122,7 @@ impl SwapStreamer {
         ensures mapped { OnOk result (HasMapped depth texels tile.now self.old self.new page frame) }
         ensures goes_on { OnOk result (self.new.broken ≡ false) }
         ensures shown { OnOk result (IsShown self.new) }
-        ensures refused { OnErr result (IsRefused self.old self.new) }
+        ensures refused { OnErr result (IsSwapRefused self.old self.new) }
     {
         if self.broken {
             return Err(NoMemory);
@@ -153,7 +153,7 @@ impl SwapStreamer {
         ensures journal { OnOk result (self.new.journal ≡ self.old.journal ++ Map page frame ∷ []) }
         ensures goes_on { OnOk result (self.new.broken ≡ false) }
         ensures shown { OnOk result (IsShown self.new) }
-        ensures refused { OnErr result (IsRefused self.old self.new) }
+        ensures refused { OnErr result (IsSwapRefused self.old self.new) }
     {
         self.broken = true;
         self.spare = fill_and_map(
@@ -201,19 +201,19 @@ impl SwapStreamer {
     {
         match victim {
             Some(victim) => self.replace(rt, slots, page, frame, victim, tile, depth, texels, gate),
-            None => self.map_and_tell(rt, slots, page, frame, tile, depth, texels, gate),
+            None => self.map_and_notify(rt, slots, page, frame, tile, depth, texels, gate),
         }
     }
 
     // Tells a gate of the newest version.
-    fn tell<G: Gate>(&self, gate: &G) {
+    fn notify<G: Gate>(&self, gate: &G) {
         gate.at(Point::Published {
             version: self.journal.version(),
         });
     }
 
     // Maps a page as `map` does, and tells the gate.
-    fn map_and_tell<R: Wait, G: Gate>(
+    fn map_and_notify<R: Wait, G: Gate>(
         &mut self,
         rt: &R,
         slots: &[Slot],
@@ -234,10 +234,10 @@ impl SwapStreamer {
         ensures mapped { OnOk result (HasMapped depth texels tile.now self.old self.new page frame) }
         ensures goes_on { OnOk result (self.new.broken ≡ false) }
         ensures shown { OnOk result (IsShown self.new) }
-        ensures refused { OnErr result (IsRefused self.old self.new) }
+        ensures refused { OnErr result (IsSwapRefused self.old self.new) }
     {
         self.map(rt, slots, page, frame, tile, depth, texels)?;
-        self.tell(gate);
+        self.notify(gate);
         Ok(())
     }
 
@@ -269,8 +269,8 @@ impl SwapStreamer {
     {
         let _version = self.journal.version();
         self.unmap(rt, victim, frame)?;
-        self.tell(gate);
-        self.map_and_tell(rt, slots, page, frame, tile, depth, texels, gate)
+        self.notify(gate);
+        self.map_and_notify(rt, slots, page, frame, tile, depth, texels, gate)
     }
 
     /// Ends the writer. It waits for readers.

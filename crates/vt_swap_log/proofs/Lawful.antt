@@ -10,7 +10,7 @@ use Rattle.vt_journal.specs.Changes.{Table, at, IsNext, AreInTurn}
 use Rattle.vt_journal.proofs.Versions.{slice_get-push, slice_get-seam, in_turn-none, in_turn-more, at-front}
 use Rattle.vt_swap_log.specs.declared.records.LogRecord.{LogRecord}
 use Rattle.vt_swap_log.specs.declared.records.LogRecord.TheVariants.{Changed, Filled}
-use Rattle.vt_swap_log.specs.Logs.{changes_in, MayFollow, IsLawful}
+use Rattle.vt_swap_log.specs.Logs.{changes_in, MayFollow, IsLawfulLog}
 use Rattle.vt_swap_log.proofs.Prefixes.{prefix_get}
 
 pub changes-append : (rs ss : List LogRecord) → changes_in (rs ++ ss) ≡ changes_in rs ++ changes_in ss
@@ -22,7 +22,7 @@ changes-append (Filled frame page words ∷ rs) ss = changes-append rs ss
 pub changes-filled : (rs : List LogRecord) (frame page : ℕ) (words : List ℕ) → changes_in (rs ++ Filled frame page words ∷ []) ≡ changes_in rs
 changes-filled rs frame page words = changes-append rs (Filled frame page words ∷ []) ∙ append-nil (changes_in rs)
 
-pub lawful_none : IsLawful []
+pub lawful_none : IsLawfulLog []
 lawful_none = record { steps = λ n r is. cc; in_turn = in_turn-none }
 
 in_turn_more : (log : List LogRecord) (r : LogRecord) → MayFollow log r → AreInTurn (changes_in log) → AreInTurn (changes_in (log ++ r ∷ []))
@@ -35,7 +35,7 @@ in_turn_more log (Changed (Unmap page frame)) may all =
 in_turn_more log (Filled frame page words) may all =
     subst (λ (js : List Change). AreInTurn js) (sym (changes-filled log frame page words)) all
 
-pub lawful_more : (log : List LogRecord) (r : LogRecord) → IsLawful log → MayFollow log r → IsLawful (log ++ r ∷ [])
+pub lawful_more : (log : List LogRecord) (r : LogRecord) → IsLawfulLog log → MayFollow log r → IsLawfulLog (log ++ r ∷ [])
 lawful_more log r lawful may = record {
   steps = λ n s is.
       elim (slice_get-push log r n s is) [
@@ -58,7 +58,7 @@ pub changes_prefix : (rs ss : List LogRecord) → IsPrefix rs ss → IsPrefix (c
 changes_prefix rs ss p = (changes_in p.0, sym (changes-append rs p.0) ∙ ap changes_in p.1)
 
 -- a beginning of a lawful log is lawful
-pub lawful_front : (rs ss : List LogRecord) → IsPrefix rs ss → IsLawful ss → IsLawful rs
+pub lawful_front : (rs ss : List LogRecord) → IsPrefix rs ss → IsLawfulLog ss → IsLawfulLog rs
 lawful_front rs ss pre lawful =
     let js = changes_prefix rs ss pre in record {
       steps = λ n r is.

@@ -2,4 +2,4 @@ pub mod Logs
 pub mod Heads
 pub mod Caches
 pub mod Slots
-pub mod Told
+pub mod LogWords

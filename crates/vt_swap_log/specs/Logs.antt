@@ -27,18 +27,18 @@ MayFollow log (Changed (Unmap page frame)) = IsNext (newest (changes_in log)) (U
 MayFollow log (Filled frame page words) = IsFree (newest (changes_in log)) frame
 
 -- each record could come after those before it, and so could each change of the page table
-pub record IsLawful (log : List LogRecord) : Type 0 where
+pub record IsLawfulLog (log : List LogRecord) : Type 0 where
   pub steps : (n : ℕ) (r : LogRecord) → slice_get log n ≡ Some r → MayFollow (take n log) r
   pub in_turn : AreInTurn (changes_in log)
 
 -- the first word is the length of the log, which is lawful. A book has two words, of which this one leaves the second at 0
-pub record IsKept (cells : List Cell) (log : List LogRecord) : Type 0 where
+pub record IsLogKept (cells : List Cell) (log : List LogRecord) : Type 0 where
   pub words : cells ≡ (length log, true) ∷ (0, true) ∷ []
-  pub lawful : IsLawful log
+  pub lawful : IsLawfulLog log
 
 abbrev pub head_of : Book → Named
 head_of b = record { tracked = true; key = 0; book = b }
 
 -- the record was added to all that had been seen; or the log was longer, and was seen
-abbrev pub Adds : Step LogRecord → View LogRecord ℕ → ℕ → View LogRecord ℕ → Type 0
-Adds s v found w = MatchBool (found == s.old) (w.0 ≡ v.0 ++ s.ask ∷ []) (length w.0 ≡ found)
+abbrev pub AddsRecord : Step LogRecord → View LogRecord ℕ → ℕ → View LogRecord ℕ → Type 0
+AddsRecord s v found w = MatchBool (found == s.old) (w.0 ≡ v.0 ++ s.ask ∷ []) (length w.0 ≡ found)

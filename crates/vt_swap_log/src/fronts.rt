@@ -3,7 +3,7 @@
 ghost use Rattle.std.specs.Prelude.{◌≡◌, ◌<◌, ◌^◌, ◌∷◌, ◌++◌, [], None, length, IsTrue, MatchBool};
 ghost use mathlib.Core.List.{IsPrefix};
 ghost use Rattle.vt_swap_log.specs.declared.records.LogRecord.TheVariants.{Changed};
-ghost use Rattle.vt_swap_log.specs.Logs.{IsLawful, MayFollow};
+ghost use Rattle.vt_swap_log.specs.Logs.{IsLawfulLog, MayFollow};
 ghost use Rattle.vt_swap_log.specs.Heads.{IsHeadOf};
 ghost use Rattle.vt_swap_log.specs.Caches.{AreOfOneLog};
 
@@ -33,7 +33,7 @@ pub fn open_log(pages: u32, frames: u32) -> (Head, Front)
 
 /// Each record of what was seen could come after those before it.
 pub fn is_lawful(front: &Front)
-    ensures { IsLawful front.now.seen.log }
+    ensures { IsLawfulLog front.now.seen.log }
 {
     let mut more = front.seen.again();
     more.learn(&front.seen);

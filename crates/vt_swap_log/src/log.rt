@@ -12,9 +12,9 @@ pub struct Law;
 impl Rule<LogRecord, u64> for Law {
     ghost use Rattle.std.specs.Prelude.{[]};
     ghost use base.Fml.{ftrue};
-    ghost use Rattle.vt_swap_log.specs.Logs.{IsKept};
+    ghost use Rattle.vt_swap_log.specs.Logs.{IsLogKept};
 
-    ghost holds = { λ cells log. IsKept cells log };
+    ghost holds = { λ cells log. IsLogKept cells log };
 
     ghost first = { [] };
 
@@ -40,9 +40,9 @@ impl Gain<LogRecord, u64> for Nothing {
 pub struct Add;
 
 impl Play<LogRecord, u64> for Add {
-    ghost use Rattle.vt_swap_log.specs.Logs.{Adds};
+    ghost use Rattle.vt_swap_log.specs.Logs.{AddsRecord};
 
-    ghost then = { Adds };
+    ghost then = { AddsRecord };
 }
 
 impl Plain<Change, LogRecord, u64> for Add {

@@ -4,7 +4,7 @@ ghost use Rattle.std.specs.Prelude.{◌≡◌, ◌<◌, IfSome, length};
 ghost use mathlib.Core.List.{IsPrefix};
 ghost use Rattle.vt_swap_log.specs.Caches.{AreOfOneLog, cache_of};
 ghost use Rattle.vt_swap_log.specs.Slots.{IsSlotOf};
-ghost use Rattle.vt_swap_log.specs.Told.{HasWord};
+ghost use Rattle.vt_swap_log.specs.LogWords.{HasWord};
 
 use crate::frame::{Frame, FrameKey, Slot};
 use crate::fronts::{again, learn};

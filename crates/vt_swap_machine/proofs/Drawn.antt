@@ -23,40 +23,40 @@ use Rattle.vt_swap.specs.Readers.{ReaderView}
 use Rattle.vt_swap.specs.Streamers.{StreamerView}
 use Rattle.vt_swap.proofs.Saying.{said_on}
 use Rattle.vt_swap.proofs.Entering.{known_on}
-use Rattle.vt_swap_workers.specs.declared.workers.SwapDrawer.{SwapDrawer}
+use Rattle.vt_swap_workers.specs.declared.workers.SwapSamplerTask.{SwapSamplerTask}
 use Rattle.vt_swap_workers.specs.SwapTasks.{HasDrawn}
 use Rattle.vt_swap_workers.proofs.FromStart.{entered_from, entered_since}
 use Rattle.vt_pass.specs.DealtRows.{IsSamplerOf}
-use Rattle.vt_swap_machine.specs.declared.draw_kit.DrawKit.{DrawKit}
-use Rattle.vt_swap_machine.specs.DrawKits.{AreDrawers, HasReader, IsToldBy, row_by, version_by, counted_together}
+use Rattle.vt_swap_machine.specs.declared.sampler_pool.SamplerPool.{SamplerPool}
+use Rattle.vt_swap_machine.specs.SamplerPools.{AreSamplerTasks, HasReader, IsKnownTo, row_by, version_by, counted_together}
 use Rattle.vt_swap_machine.specs.SwapPasses.{WasDrawn, MayEndDraw, reader_by, IsEnteredRow}
 use Rattle.vt_swap_machine.proofs.RowLines.{row_version, counted_is_wanted}
 
-module _ {P : Type 0} (filter : FilterMeanings P) (k : DrawKit) (scene : Scene) (picture : ℕ) (cache : Cache) (start : ℕ) (e f : List SwapDrawer)
+module _ {P : Type 0} (filter : FilterMeanings P) (k : SamplerPool) (scene : Scene) (picture : ℕ) (cache : Cache) (start : ℕ) (e f : List SwapSamplerTask)
     (h : MayEndDraw filter k scene picture cache start e f) where
   -- what a sampler was, that it had its reader, and that it has drawn
-  record HasWorked (number : ℕ) (task : SwapDrawer) : Type 0 where
-    before : SwapDrawer
+  record HasWorked (number : ℕ) (task : SwapSamplerTask) : Type 0 where
+    before : SwapSamplerTask
     there : slice_get e number ≡ Some before
     was : IsSamplerOf k.geometry k.depth k.width k.height k.count number before.sampler
     reads : HasReader cache before
     drawn : HasDrawn filter start scene picture before task
 
-  worked : (m : ℕ) (task : SwapDrawer) → slice_get f m ≡ Some task → HasWorked m task
+  worked : (m : ℕ) (task : SwapSamplerTask) → slice_get f m ≡ Some task → HasWorked m task
   worked m task is =
       let low : m < length e = (let w = slice_get_within f m task is in let n = h.number in omega (arith, w, n)) in
       let there = slice_get-get_or e m task low in
       record {
         before = get_or e m task;
         there = there;
-        was = h.ready.kit.samplers.each m (get_or e m task) there;
+        was = h.ready.pool.samplers.each m (get_or e m task) there;
         reads = h.ready.readers m task low;
-        drawn = subst (λ (x : SwapDrawer). HasDrawn filter start scene picture (get_or e m task) x) (get_or_from_slice_get f m task task is)
+        drawn = subst (λ (x : SwapSamplerTask). HasDrawn filter start scene picture (get_or e m task) x) (get_or_from_slice_get f m task task is)
             (h.drawn m task low);
       }
 
   -- its reader afterwards is one of the same log
-  same_log : (m : ℕ) (task : SwapDrawer) (d : HasWorked m task) → d.drawn.reader.cache ≡ cache
+  same_log : (m : ℕ) (task : SwapSamplerTask) (d : HasWorked m task) → d.drawn.reader.cache ≡ cache
   same_log m task d = d.drawn.rows.entered.cache ∙ d.drawn.seen.entered.more.cache
       ∙ ap (λ (r : ReaderView). r.cache) (same_Some d.drawn.before d.reads.reader (sym d.drawn.had ∙ d.reads.has)) ∙ d.reads.of
 
@@ -70,7 +70,7 @@ module _ {P : Type 0} (filter : FilterMeanings P) (k : DrawKit) (scene : Scene) 
         of = same_log m (get_or f m task) d;
       }
 
-  stays : (m : ℕ) (task : SwapDrawer) → slice_get f m ≡ Some task → IsSamplerOf k.geometry k.depth k.width k.height k.count m task.sampler
+  stays : (m : ℕ) (task : SwapSamplerTask) → slice_get f m ≡ Some task → IsSamplerOf k.geometry k.depth k.width k.height k.count m task.sampler
   stays m task is = let d = worked m task is in record {
     number_is = d.drawn.number ∙ d.was.number_is;
     among = d.drawn.among ∙ d.was.among;
@@ -81,37 +81,37 @@ module _ {P : Type 0} (filter : FilterMeanings P) (k : DrawKit) (scene : Scene) 
   }
 
   number_is : length f ≡ k.count
-  number_is = h.number ∙ h.ready.kit.samplers.count
+  number_is = h.number ∙ h.ready.pool.samplers.count
 
-  -- the samplers are those of the kit
-  pub samplers_stay : AreDrawers k.geometry k.depth k.width k.height k.count f
+  -- the samplers are those of the pool
+  pub samplers_stay : AreSamplerTasks k.geometry k.depth k.width k.height k.count f
   samplers_stay = record { count = number_is; each = stays }
 
-  sampler_counts : (p m : ℕ) (task : SwapDrawer) → p < length k.counts → slice_get f m ≡ Some task
+  sampler_counts : (p m : ℕ) (task : SwapSamplerTask) → p < length k.counts → slice_get f m ≡ Some task
       → slice_index task.sampler.counts p ≡ wants_in_rows filter.wants scene.shape scene.path picture (own_rows m k.count scene.path.height) p
   sampler_counts p m task inside is =
       let d = worked m task is in
       let its = stays m task is in
-      let below : p < length task.sampler.counts = (let a = its.pages in let n = h.ready.kit.counts in omega (arith, a, n, inside)) in
+      let below : p < length task.sampler.counts = (let a = its.pages in let n = h.ready.pool.counts in omega (arith, a, n, inside)) in
       d.drawn.counted p below
       ∙ (λ i. wants_in_rows filter.wants scene.shape scene.path picture (own_rows (its.number_is i) (its.among i) (d.drawn.for_it.height i)) p)
 
   -- what they have counted together is what the picture wants
   pub counted : (p : ℕ) → p < length k.counts → counted_together f p ≡ picture_wants filter.wants scene picture p
-  counted p inside = counted_is_wanted filter.wants scene.shape scene.path picture k.count p f h.ready.kit.some number_is
+  counted p inside = counted_is_wanted filter.wants scene.shape scene.path picture k.count p f h.ready.pool.some number_is
       (λ m task is. sampler_counts p m task inside is)
 
   -- and it is below the counts' bound
   pub counts_low : WantsFew filter.wants → (p : ℕ) → p < length k.counts → counted_together f p < 2 ^ 32
   counts_low most p inside =
-      let sides = subst (λ (x : ℕ × ℕ). ArePictureSides x.0 x.1) (λ i. (sym h.width i, sym h.height i)) h.ready.kit.sides in
+      let sides = subst (λ (x : ℕ × ℕ). ArePictureSides x.0 x.1) (λ i. (sym h.width i, sym h.height i)) h.ready.pool.sides in
       let few = picture_few filter.wants most scene.shape scene.path picture p sides in
       let n = counted p inside in
       omega (arith, n, few)
 
   -- a row of the picture, with the sampler that it was dealt to
   pub record HasRow (y : ℕ) : Type 0 where
-    pub task : SwapDrawer
+    pub task : SwapSamplerTask
     pub there : slice_get f (y % k.count) ≡ Some task
     pub own : IsOwn task.sampler y
     pub bytes_are : row_by (slice_get f (y % k.count)) y ≡ row_at task.sampler y
@@ -131,7 +131,7 @@ module _ {P : Type 0} (filter : FilterMeanings P) (k : DrawKit) (scene : Scene) 
           bytes_are = ap (λ o. row_by o y) at.2;
           version_is = ap (λ o. version_by o y) at.2;
         }
-        | inr past ↦ absurd (let low = mod_below y k.count h.ready.kit.some in let n = number_is in let a = past.0 in omega (arith, low, n, a))
+        | inr past ↦ absurd (let low = mod_below y k.count h.ready.pool.some in let n = number_is in let a = past.0 in omega (arith, low, n, a))
       ]
 
   pub row_full : (y : ℕ) (r : HasRow y) → length (row_at r.task.sampler y) ≡ row_length k.depth k.width
@@ -144,8 +144,8 @@ module _ {P : Type 0} (filter : FilterMeanings P) (k : DrawKit) (scene : Scene) 
       let r = has_row j inside in
       let one : a.task ≡ r.task = same_Some a.task r.task (sym a.there ∙ ap (slice_get f) same ∙ r.there) in
       let d = worked (j % k.count) r.task r.there in
-      let up = d.drawn.rising i j (subst (λ (x : SwapDrawer). IsOwn x.sampler i) one a.own) r.own (omega (arith, below)) in
-      let v = a.version_is ∙ ap (λ (x : SwapDrawer). version_at x.sampler i) one in
+      let up = d.drawn.rising i j (subst (λ (x : SwapSamplerTask). IsOwn x.sampler i) one a.own) r.own (omega (arith, below)) in
+      let v = a.version_is ∙ ap (λ (x : SwapSamplerTask). version_at x.sampler i) one in
       let w = r.version_is in
       omega (arith, up, v, w)
 
@@ -170,13 +170,13 @@ module _ {P : Type 0} (filter : FilterMeanings P) (k : DrawKit) (scene : Scene) 
   }
 
   -- the readers have seen no more of the log than the streamer did
-  module _ (v : StreamerView) (cache_is : v.cache ≡ cache) (told : All (IsToldBy v.log) f) where
+  module _ (v : StreamerView) (cache_is : v.cache ≡ cache) (known : All (IsKnownTo v.log) f) where
     seen_less : (y : ℕ) (r : HasRow y) → IsPrefix (worked (y % k.count) r.task r.there).drawn.reader.log v.log
     seen_less y r =
         let d = worked (y % k.count) r.task r.there in
         let low : y % k.count < length f = slice_get_within f (y % k.count) r.task r.there in
         let here : get_or f (y % k.count) r.task ≡ r.task = get_or_from_slice_get f (y % k.count) r.task r.task r.there in
-        let t = subst (IsToldBy v.log) here (told (y % k.count) r.task low) in
+        let t = subst (IsKnownTo v.log) here (known (y % k.count) r.task low) in
         subst (λ (x : ReaderView). IsPrefix x.log v.log) (same_Some t.reader d.drawn.reader (sym t.has ∙ d.drawn.has)) t.seen
 
     -- so the version of a row is one of the journal

@@ -27,34 +27,34 @@ was_read : (o : Outcome) → is_lost o ≡ false → o ≡ Read
 was_read Read e = refl
 was_read Lost e = absurd (false≢true (sym e))
 
-module _ (s : Shape) (d : ℕ) (told : Option (List ℕ)) where
+module _ (s : Shape) (d : ℕ) (known : Option (List ℕ)) where
   -- the fills of results that are good
   pub results_stored : (batch : List Planned) (results : List Loaded) (log : List LogRecord) → AreFillsOf d (s.tile * s.tile) batch results log
-      → All (IsResultOf batch) results → All (IsGood told s d) results → AreStoredFills s d told log
+      → All (IsResultOf batch) results → All (IsGood known s d) results → AreStoredFills s d known log
   results_stored batch results log fills entries good n frame page words is =
       let fill = fills n frame page words is in
       let entry = All-contains (IsResultOf batch) results fill.result entries fill.among in
-      let tile = All-contains (IsGood told s d) results fill.result good fill.among in
+      let tile = All-contains (IsGood known s d) results fill.result good fill.among in
       record {
         tile = fill.result.request.buffer.elements;
         size = tile.size;
-        of_store = subst (λ (p : ℕ). IfSome told (λ b. IsPiece b (tile_start s d p) fill.result.request.buffer.elements))
+        of_store = subst (λ (p : ℕ). IfSome known (λ b. IsPiece b (tile_start s d p) fill.result.request.buffer.elements))
             (entry.page ∙ fill.page_is) (tile.tile (was_read fill.result.outcome fill.read));
         words_of = fill.words_of;
       }
 
   -- the fill of a page that is placed
   pub placed_stored : (v w : StreamerView) (page frame : ℕ) (tile : List ℕ) → HasMapped d (s.tile * s.tile) tile v w page frame
-      → length tile ≡ tile_length s d → IfSome told (λ b. IsPiece b (tile_start s d page) tile) → AreStoredFills s d told v.log
-      → AreStoredFills s d told w.log
+      → length tile ≡ tile_length s d → IfSome known (λ b. IsPiece b (tile_start s d page) tile) → AreStoredFills s d known v.log
+      → AreStoredFills s d known w.log
   placed_stored v w page frame tile mapped size of_store old =
-      subst (AreStoredFills s d told) (sym mapped.log)
-      (fills_grow s d told v.log (Filled frame page mapped.words ∷ Changed (Map page frame) ∷ []) old added) where
-        added : AreStoredFills s d told (Filled frame page mapped.words ∷ Changed (Map page frame) ∷ [])
+      subst (AreStoredFills s d known) (sym mapped.log)
+      (fills_grow s d known v.log (Filled frame page mapped.words ∷ Changed (Map page frame) ∷ []) old added) where
+        added : AreStoredFills s d known (Filled frame page mapped.words ∷ Changed (Map page frame) ∷ [])
         added zero f p words is = record {
           tile = tile;
           size = size;
-          of_store = subst (λ (q : ℕ). IfSome told (λ b. IsPiece b (tile_start s d q) tile)) (same_page (same_Some _ _ is)) of_store;
+          of_store = subst (λ (q : ℕ). IfSome known (λ b. IsPiece b (tile_start s d q) tile)) (same_page (same_Some _ _ is)) of_store;
           words_of = subst (λ (ws : List ℕ). AreWordsOf d (s.tile * s.tile) tile ws) (same_words (same_Some _ _ is)) mapped.words_of;
         } where
           same_page : Filled frame page mapped.words ≡ Filled f p words → page ≡ p

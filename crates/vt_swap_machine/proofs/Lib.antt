@@ -1,4 +1,4 @@
-pub mod Drawers
+pub mod PooledSamplers
 pub mod RowLines
 pub mod Drawn
 pub mod Fills

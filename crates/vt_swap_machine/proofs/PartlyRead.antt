@@ -18,8 +18,8 @@ pub read_partly : (s : Shape) (d : ℕ) (batch : List Planned) (losses : List Bo
     → AreReadFor s d batch losses old new → ArePartlyReadFor s d batch old new
 read_partly s d batch losses old new each read = record {
   same = read.same;
-  at_most_once = λ tell at len. let once = (read.once tell).asked at len in omega (arith, once);
+  at_most_once = λ all_known at len. let once = (read.once all_known).asked at len in omega (arith, once);
   lost = lost_entries batch losses;
-  failed = λ tell at len. let once = (read.once tell).failed at len in omega (arith, once);
+  failed = λ all_known at len. let once = (read.once all_known).failed at len in omega (arith, once);
   faults = subst (λ n. RoseTogetherBy n (counts_of old) (counts_of new)) (sym (kept_lost batch losses each ∙ length-filter (λ l. l) losses)) read.faults;
 }

@@ -17,16 +17,16 @@ use Rattle.vt_pictures.specs.Evidence.{IsBy, AreTrue, AreShown}
 use Rattle.vt_pictures.specs.FilterLaws.{IsUnder}
 use Rattle.vt_pictures.proofs.Handed.{pixel_is_under}
 use Rattle.vt_tiles.specs.Format.{stored}
-use Rattle.vt_tiles.specs.StoreViews.{IsStore, IsStoreIfTold}
+use Rattle.vt_tiles.specs.StoreViews.{IsStore, IsStoreIfKnown}
 use Rattle.vt_tiles.proofs.Stored.{pieces_hold_texels}
 use Rattle.vt_pictures.specs.Scenes.{Scene}
 use Rattle.vt_pictures.specs.Replays.{HasPixels, AreReplayed}
 use Rattle.vt_swap.specs.LogTypes.records.LogRecord.{LogRecord}
-use Rattle.vt_swap.specs.Logs.{changes_in, IsLawful}
+use Rattle.vt_swap.specs.Logs.{changes_in, IsLawfulLog}
 use Rattle.vt_swap.specs.Notes.{IsSaidBy}
 use Rattle.vt_swap_machine.specs.Filled.{AreStoredFills, IsStoredTile}
 
-module _ (log : List LogRecord) (s : Shape) (d : ℕ) (b : List ℕ) (lawful : IsLawful log) (store : IsStore b s d)
+module _ (log : List LogRecord) (s : Shape) (d : ℕ) (b : List ℕ) (lawful : IsLawfulLog log) (store : IsStore b s d)
     (are : AreStoredFills s d (Some b) log) (version : ℕ) where
   -- a word that is said of a frame is that of the store's texel, if the version maps the texel's page to the frame
   stored_word : (frame j x y word : ℕ) → IsInside s j x y → at (changes_in log) version (texel_page s j x y) ≡ Some frame
@@ -53,7 +53,7 @@ module _ (log : List LogRecord) (s : Shape) (d : ℕ) (b : List ℕ) (lawful : I
 -- so what a filter has drawn by what is said is what it shows under the table
 module _ (shown : Shape → ℕ → ℕ → List Note → RowView → ℕ → List ℕ → Type 0) (under : Source → Scene → Table → ℕ → ℕ → ℕ → List ℕ)
     (law : IsUnder shown under) (log : List LogRecord) where
-  module _ (s : Shape) (d : ℕ) (b : List ℕ) (lawful : IsLawful log) (limits : IsWithinLimits s) (store : IsStore b s d)
+  module _ (s : Shape) (d : ℕ) (b : List ℕ) (lawful : IsLawfulLog log) (limits : IsWithinLimits s) (store : IsStore b s d)
       (are : AreStoredFills s d (Some b) log) (scene : Scene) (same : scene.shape ≡ s) (deep : scene.depth ≡ d) where
     -- of the scene's own texture
     own_limits : IsWithinLimits scene.shape
@@ -76,11 +76,11 @@ module _ (shown : Shape → ℕ → ℕ → List Note → RowView → ℕ → Li
     row_replayed version i n y bytes are_shown x inside = pixel_replayed version i x y (texel_bytes d bytes x) (are_shown x inside)
 
   -- the rows of a picture
-  pub picture_replayed : (s : Shape) (d : ℕ) (told : Option (List ℕ)) (scene : Scene) (i n : ℕ) (lines : List RowLine) (rows : List (List ℕ))
-      → IsLawful log → IsWithinLimits s → IsStoreIfTold told s d → AreStoredFills s d told log → scene.shape ≡ s → scene.depth ≡ d
+  pub picture_replayed : (s : Shape) (d : ℕ) (known : Option (List ℕ)) (scene : Scene) (i n : ℕ) (lines : List RowLine) (rows : List (List ℕ))
+      → IsLawfulLog log → IsWithinLimits s → IsStoreIfKnown known s d → AreStoredFills s d known log → scene.shape ≡ s → scene.depth ≡ d
       → ((y : ℕ) (line : RowLine) → slice_get lines y ≡ Some line
       → AreShown shown s d line.version (IsSaidBy log) (shot_row s scene.path i y) n (get_or rows y []))
-      → IfSome told (λ b. AreReplayed d n (λ m x y. under (stored b) scene m i x y) (changes_in log) lines rows)
+      → IfSome known (λ b. AreReplayed d n (λ m x y. under (stored b) scene m i x y) (changes_in log) lines rows)
   picture_replayed s d None scene i n lines rows lawful limits store are same deep drawn = tt
   picture_replayed s d (Some b) scene i n lines rows lawful limits store are same deep drawn = λ y line there.
       row_replayed s d b lawful limits (store.each b refl) are scene same deep line.version i n y (get_or rows y []) (drawn y line there)

@@ -15,8 +15,8 @@ use Rattle.vt_pictures.specs.JournalTypes.changes.RowLine.{RowLine}
 use Rattle.vt_pass.specs.Samplers.{own_rows}
 use Rattle.vt_pass.proofs.Sharing.{rows_shared}
 use Rattle.vt_loading.specs.RowOrders.{AreRowsInOrder}
-use Rattle.vt_swap_workers.specs.declared.workers.SwapDrawer.{SwapDrawer}
-use Rattle.vt_swap_machine.specs.DrawKits.{version_by, line_of, lines_of, counted_together}
+use Rattle.vt_swap_workers.specs.declared.workers.SwapSamplerTask.{SwapSamplerTask}
+use Rattle.vt_swap_machine.specs.SamplerPools.{version_by, line_of, lines_of, counted_together}
 
 -- what stands at a place of a list that is made place by place
 made_at : {A : Type 0} (f : ℕ → A) (a n y : ℕ) (x : A) → slice_get (map f (range_with_len a n)) y ≡ Some x → x ≡ f (a + y)
@@ -25,7 +25,7 @@ made_at f a (suc n) zero x e = let z : a ≡ a + 0 = omega arith in sym (same_So
 made_at f a (suc n) (suc y) x e = let z : (a + 1) + y ≡ a + suc y = omega arith in made_at f (a + 1) n y x e ∙ ap f z
 
 -- the line of a row
-pub line_there : (samplers : ℕ) (tasks : List SwapDrawer) (height y : ℕ) (line : RowLine) → slice_get (lines_of samplers tasks height) y ≡ Some line
+pub line_there : (samplers : ℕ) (tasks : List SwapSamplerTask) (height y : ℕ) (line : RowLine) → slice_get (lines_of samplers tasks height) y ≡ Some line
     → (y < height) × (line ≡ line_of samplers tasks y)
 line_there samplers tasks height y line is =
     let low = slice_get_within (lines_of samplers tasks height) y line is in
@@ -34,11 +34,11 @@ line_there samplers tasks height y line is =
     (omega (arith, low, number), made_at (line_of samplers tasks) 0 height y line is ∙ ap (line_of samplers tasks) z)
 
 -- the version of a row of the sampler that it is dealt to
-abbrev pub row_version : ℕ → List SwapDrawer → ℕ → ℕ
+abbrev pub row_version : ℕ → List SwapSamplerTask → ℕ → ℕ
 row_version samplers tasks y = version_by (slice_get tasks (y % samplers)) y
 
 -- the lines of rows are in order if their versions are those of the pass, and those of one sampler never fall
-pub lines_in_order : (samplers height start last : ℕ) (tasks : List SwapDrawer) → 1 ≤ samplers → samplers ≤ most_samplers
+pub lines_in_order : (samplers height start last : ℕ) (tasks : List SwapSamplerTask) → 1 ≤ samplers → samplers ≤ most_samplers
     → ((y : ℕ) → y < height → (start ≤ row_version samplers tasks y) × (row_version samplers tasks y ≤ last))
     → ((i j : ℕ) → i < j → j < height → i % samplers ≡ j % samplers → row_version samplers tasks i ≤ row_version samplers tasks j)
     → AreRowsInOrder true samplers height start last (lines_of samplers tasks height)
@@ -67,12 +67,12 @@ lines_in_order samplers height start last tasks some few within rising = record 
 }
 
 -- what samplers have counted together is the sum of what each has
-counts_add : (p : ℕ) (f : ℕ → ℕ) (a : ℕ) (tasks : List SwapDrawer)
-    → ((n : ℕ) (task : SwapDrawer) → slice_get tasks n ≡ Some task → slice_index task.sampler.counts p ≡ f (a + n))
+counts_add : (p : ℕ) (f : ℕ → ℕ) (a : ℕ) (tasks : List SwapSamplerTask)
+    → ((n : ℕ) (task : SwapSamplerTask) → slice_get tasks n ≡ Some task → slice_index task.sampler.counts p ≡ f (a + n))
     → counted_together tasks p ≡ sum_by f (range_with_len a (length tasks))
 counts_add p f a [] h = refl
 counts_add p f a (t ∷ ts) h =
-    let x = sum_by-cons (λ (task : SwapDrawer). slice_index task.sampler.counts p) t ts in
+    let x = sum_by-cons (λ (task : SwapSamplerTask). slice_index task.sampler.counts p) t ts in
     let y = sum_by-cons f a (range_with_len (a + 1) (length ts)) in
     let r = counts_add p f (a + 1) ts (λ n u e. let m : a + suc n ≡ (a + 1) + n = omega arith in h (suc n) u e ∙ ap f m) in
     let m : a + 0 ≡ a = omega arith in
@@ -80,8 +80,8 @@ counts_add p f a (t ∷ ts) h =
     omega (arith, x, y, r, z)
 
 -- samplers that have drawn a picture have counted together what it wants
-pub counted_is_wanted : (wants : Shape → RowView → ℕ → ℕ → ℕ) (s : Shape) (path : PathView) (i samplers p : ℕ) (tasks : List SwapDrawer) → 1 ≤ samplers → length tasks ≡ samplers
-    → ((n : ℕ) (task : SwapDrawer) → slice_get tasks n ≡ Some task
+pub counted_is_wanted : (wants : Shape → RowView → ℕ → ℕ → ℕ) (s : Shape) (path : PathView) (i samplers p : ℕ) (tasks : List SwapSamplerTask) → 1 ≤ samplers → length tasks ≡ samplers
+    → ((n : ℕ) (task : SwapSamplerTask) → slice_get tasks n ≡ Some task
     → slice_index task.sampler.counts p ≡ wants_in_rows wants s path i (own_rows n samplers path.height) p)
     → counted_together tasks p ≡ wants_in_rows wants s path i (range_with_len 0 path.height) p
 counted_is_wanted wants s path i samplers p tasks some number each =

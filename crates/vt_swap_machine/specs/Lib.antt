@@ -1,4 +1,4 @@
-pub mod DrawKits
+pub mod SamplerPools
 pub mod SwapPasses
 pub mod SwapMachines
 pub mod SwapLaws

@@ -10,12 +10,12 @@ ghost use Rattle.vt_pictures.specs.Shots.{shot_row};
 ghost use Rattle.vt_pictures.specs.JournalTypes.changes.RowLine.{RowLine};
 ghost use Rattle.vt_pictures.specs.Changes.{at};
 ghost use Rattle.vt_tiles.specs.Format.{stored};
-ghost use Rattle.vt_tiles.specs.StoreViews.{IsStore, IsStoreIfTold};
+ghost use Rattle.vt_tiles.specs.StoreViews.{IsStore, IsStoreIfKnown};
 ghost use Rattle.vt_pictures.specs.Scenes.{Scene};
 ghost use Rattle.vt_pictures.specs.Replays.{HasPixels, AreReplayed};
 ghost use Rattle.vt_pictures.specs.Evidence.{AreTrue, AreShown};
 ghost use Rattle.vt_swap.specs.LogTypes.records.LogRecord.{LogRecord};
-ghost use Rattle.vt_swap.specs.Logs.{changes_in, IsLawful};
+ghost use Rattle.vt_swap.specs.Logs.{changes_in, IsLawfulLog};
 ghost use Rattle.vt_swap.specs.Notes.{IsSaidBy};
 ghost use Rattle.vt_swap_machine.specs.Filled.{AreStoredFills};
 
@@ -25,7 +25,7 @@ use vt_pictures::Filter;
 /// the store.
 pub fn logs_are_true()
     ensures { (log : List LogRecord) (s : Shape) (d : ℕ) (b : List ℕ) (version : ℕ)
-        → IsLawful log → IsWithinLimits s → IsStore b s d → AreStoredFills s d (Some b) log
+        → IsLawfulLog log → IsWithinLimits s → IsStore b s d → AreStoredFills s d (Some b) log
         → AreTrue s (stored b) (at (changes_in log) version) version (IsSaidBy log) }
 {}
 
@@ -33,22 +33,22 @@ pub fn logs_are_true()
 /// that version has, though the journal has grown since (van Waveren 2012).
 pub fn rows_by_a_log_are_replayed<P: Filter>()
     ensures { (log : List LogRecord) (s : Shape) (d : ℕ) (b : List ℕ) (scene : Scene) (version i n y : ℕ) (bytes : List ℕ)
-        → IsLawful log → IsWithinLimits s → IsStore b s d → AreStoredFills s d (Some b) log
+        → IsLawfulLog log → IsWithinLimits s → IsStore b s d → AreStoredFills s d (Some b) log
         → scene.shape ≡ s → scene.depth ≡ d
         → AreShown P.shown s d version (IsSaidBy log) (shot_row s scene.path i y) n bytes
         → HasPixels d n (λ x. P.under (stored b) scene (at (changes_in log) version) i x y) bytes }
 {}
 
 /// A picture each of whose rows was drawn so, at the version that its line names, is the replay of the log's journal, where the
-/// store's bytes are told.
+/// store's bytes are known.
 pub fn pictures_by_a_log_are_replayed<P: Filter>()
-    ensures { (log : List LogRecord) (s : Shape) (d : ℕ) (told : Option (List ℕ)) (scene : Scene) (i n : ℕ)
+    ensures { (log : List LogRecord) (s : Shape) (d : ℕ) (known : Option (List ℕ)) (scene : Scene) (i n : ℕ)
         (lines : List RowLine) (rows : List (List ℕ))
-        → IsLawful log → IsWithinLimits s → IsStoreIfTold told s d → AreStoredFills s d told log
+        → IsLawfulLog log → IsWithinLimits s → IsStoreIfKnown known s d → AreStoredFills s d known log
         → scene.shape ≡ s → scene.depth ≡ d
         → ((y : ℕ) (line : RowLine) → slice_get lines y ≡ Some line
         → AreShown P.shown s d line.version (IsSaidBy log) (shot_row s scene.path i y) n (slice_index_or rows y []))
-        → IfSome told (λ b. AreReplayed d n (λ m x y. P.under (stored b) scene m i x y) (changes_in log) lines rows) }
+        → IfSome known (λ b. AreReplayed d n (λ m x y. P.under (stored b) scene m i x y) (changes_in log) lines rows) }
 {}
 
 /// What a beginning of a log says the whole says: so a row stays drawn.
@@ -60,6 +60,6 @@ pub fn what_is_said_stays_said<P: Filter>()
 
 /// Where the fills of a log and those that were added are of tiles of a store, so are those of both.
 pub fn fills_add_up()
-    ensures { (s : Shape) (d : ℕ) (told : Option (List ℕ)) (rs ss : List LogRecord) → AreStoredFills s d told rs
-        → AreStoredFills s d told ss → AreStoredFills s d told (rs ++ ss) }
+    ensures { (s : Shape) (d : ℕ) (known : Option (List ℕ)) (rs ss : List LogRecord) → AreStoredFills s d known rs
+        → AreStoredFills s d known ss → AreStoredFills s d known (rs ++ ss) }
 {}

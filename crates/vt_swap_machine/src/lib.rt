@@ -3,16 +3,16 @@
 //! Rows that were drawn by what the log of the cache says are the replay of its journal.
 #![tactic(auto)]
 
-mod draw_kit;
 mod laws;
 mod machine;
 mod passes;
-mod told;
+mod reports;
+mod sampler_pool;
 
-pub use draw_kit::DrawKit;
 pub use laws::{
     fills_add_up, logs_are_true, pictures_by_a_log_are_replayed, rows_by_a_log_are_replayed,
     what_is_said_stays_said,
 };
-pub use machine::{SwapMachine, SwappedMachine};
-pub use vt_swap_workers::{SwapDrawer, SwapFeeder, SwapShared};
+pub use machine::{SwapMachine, SwapMachineBy};
+pub use sampler_pool::SamplerPool;
+pub use vt_swap_workers::{SwapSamplerTask, SwapShared, SwapStreamerTask};

@@ -9,8 +9,8 @@ ghost use Rattle.vt_loading.specs.Jobs.{job_of};
 ghost use Rattle.vt_swap_machine.specs.SwapMachines.{SwapView, swap_state, IsIdleBy, IsReadyBy, drawn_by, AreOut, Begun, MayFinish, SwapFinishes};
 ghost use Rattle.vt_swap_machine.specs.SwapPasses.{entered_by};
 
-use crate::draw_kit::DrawKit;
-use crate::passes::{cache_for, end_feeder, end_pass, place_page, prepare_pass};
+use crate::passes::{cache_for, end_pass, end_streaming, place_page, prepare_pass};
+use crate::sampler_pool::SamplerPool;
 use std::alloc::Global;
 use std::marker::{Model, PhantomData};
 use std::mem;
@@ -21,28 +21,28 @@ use vt_evict::Batch;
 use vt_feedback::Counts;
 use vt_journal::Journal;
 use vt_load::QueuedLoader;
-use vt_loading::{Crew, PassMachine, PassReport, StreamKit, blank_report, new_queues};
+use vt_loading::{Crew, LoaderPool, PassMachine, PassReport, blank_report, new_queues};
 use vt_outside::{File, Gate, Items, NoMemory};
 use vt_pages::Geometry;
 use vt_pictures::{Filter, Nearest, Shot};
-use vt_swap_workers::{SwapDrawer, SwapFeeder, SwapShared};
+use vt_swap_workers::{SwapSamplerTask, SwapShared, SwapStreamerTask};
 use vt_tiles::Stores;
 
 /// A machine that draws the rows of a picture by a filter, each in the version of the page table that its sampler enters for it, where a
 /// row is drawn anew when a frame does not have the tile that the version says; and that streams the batch at the same time. The table lies
 /// in two copies, and a frame is written once nobody reads it.
-pub struct SwappedMachine<F: File, P: Filter> {
+pub struct SwapMachineBy<F: File, P: Filter> {
     shared: SwapShared<P>,
     // It is out while a pass is run.
-    feeder: Option<SwapFeeder>,
-    streams: StreamKit<F>,
-    drawers: DrawKit,
+    streaming: Option<SwapStreamerTask>,
+    streams: LoaderPool<F>,
+    sampling: SamplerPool,
 }
 
 /// The machine over such a page cache that draws each pixel of one texel.
-pub type SwapMachine<F> = SwappedMachine<F, Nearest>;
+pub type SwapMachine<F> = SwapMachineBy<F, Nearest>;
 
-impl<F: File, P: Filter> Model for SwappedMachine<F, P> {
+impl<F: File, P: Filter> Model for SwapMachineBy<F, P> {
     ghost use Rattle.vt_swap_machine.specs.SwapMachines.{SwapView};
 
     ghost Value = { SwapView F };
@@ -51,13 +51,13 @@ impl<F: File, P: Filter> Model for SwappedMachine<F, P> {
       slots = m.shared.slots;
       queues = m.shared.queues;
       start = m.shared.start;
-      feeder = m.feeder;
+      streaming = m.streaming;
       streams = m.streams;
-      drawers = m.drawers;
+      sampling = m.sampling;
     } };
 }
 
-impl<F: File + Send, P: Filter + Sync> PassMachine for SwappedMachine<F, P> {
+impl<F: File + Send, P: Filter + Sync> PassMachine for SwapMachineBy<F, P> {
     ghost use Rattle.std.specs.Prelude.{None, true};
     ghost use Rattle.vt_tiles.specs.Format.{stored};
     ghost use Rattle.vt_swap_machine.specs.SwapLaws.{come_back, has_ended, may_refuse};
@@ -68,9 +68,9 @@ impl<F: File + Send, P: Filter + Sync> PassMachine for SwappedMachine<F, P> {
 
     type Loader = QueuedLoader<F>;
 
-    type Sampler = SwapDrawer;
+    type Sampler = SwapSamplerTask;
 
-    type Streamer = SwapFeeder;
+    type Streamer = SwapStreamerTask;
 
     const DEALT: bool = true;
 
@@ -84,22 +84,22 @@ impl<F: File + Send, P: Filter + Sync> PassMachine for SwappedMachine<F, P> {
 
     ghost state = { λ m. swap_state F.File m };
 
-    ghost is_idle = { λ m. IsIdleBy F.File m.slots m.feeder m.streams m.drawers };
+    ghost is_idle = { λ m. IsIdleBy F.File m.slots m.streaming m.streams m.sampling };
 
-    ghost is_ready = { λ m batch. IsReadyBy F.File m.slots m.queues m.start m.feeder m.streams m.drawers batch };
+    ghost is_ready = { λ m batch. IsReadyBy F.File m.slots m.queues m.start m.streaming m.streams m.sampling batch };
 
-    ghost drawn = { λ m. drawn_by P.Filter m.drawers m.feeder };
+    ghost drawn = { λ m. drawn_by P.Filter m.sampling m.streaming };
 
     ghost refuses = { Unit {0} };
 
-    ghost held = { λ m p job lines. entered_by P.Filter m.drawers.tasks.elements p.drawers job lines };
+    ghost held = { λ m p job lines. entered_by P.Filter m.sampling.tasks.elements p.sampling job lines };
 
     ghost lent = { λ m. record { slots = m.slots; queues = m.queues; filter = record {}; start = m.start } };
 
     ghost detached = { λ m job n loaders samplers streamer. AreOut F.File m n loaders samplers streamer };
 
     ghost may_reattach = { λ n job loaders samplers streamer. (b : Begun F)
-        × MayFinish F.File P.Filter n.slots n.queues n.feeder n.streams n.drawers job loaders samplers streamer b };
+        × MayFinish F.File P.Filter n.slots n.queues n.streaming n.streams n.sampling job loaders samplers streamer b };
 
     ghost reattached = { λ n job loaders samplers streamer p result.
         SwapFinishes F.File P.Filter job result n loaders samplers streamer p };
@@ -116,7 +116,7 @@ impl<F: File + Send, P: Filter + Sync> PassMachine for SwappedMachine<F, P> {
     ) -> Result<Self, NoMemory> {
         let (queues, asks, answers) = new_queues(alloc, 1)?;
         let report = blank_report(alloc, 0)?;
-        let (streamer, slots, drawers) = cache_for(
+        let (streamer, slots, sampling) = cache_for(
             rt,
             alloc,
             geometry,
@@ -126,8 +126,8 @@ impl<F: File + Send, P: Filter + Sync> PassMachine for SwappedMachine<F, P> {
             depth,
         )?;
         let held = mem::replace(stores, Items::new(alloc));
-        let streams = StreamKit::new(alloc, geometry, crew, depth, asks, held);
-        let feeder = SwapFeeder {
+        let streams = LoaderPool::new(alloc, geometry, crew, depth, asks, held);
+        let streaming = SwapStreamerTask {
             streamer,
             geometry: *geometry,
             depth,
@@ -135,16 +135,16 @@ impl<F: File + Send, P: Filter + Sync> PassMachine for SwappedMachine<F, P> {
             report,
             refused: false,
         };
-        Ok(SwappedMachine {
+        Ok(SwapMachineBy {
             shared: SwapShared {
                 slots,
                 queues,
                 filter: PhantomData,
                 start: 0,
             },
-            feeder: Some(feeder),
+            streaming: Some(streaming),
             streams,
-            drawers,
+            sampling,
         })
     }
 
@@ -155,7 +155,7 @@ impl<F: File + Send, P: Filter + Sync> PassMachine for SwappedMachine<F, P> {
         frame: u32,
         tile: &[u8],
     ) -> Result<(), NoMemory> {
-        match &mut self.feeder {
+        match &mut self.streaming {
             Some(own) => place_page(rt, self.shared.slots.slice(), own, page, frame, tile),
             None => unreachable!(),
         }
@@ -166,13 +166,13 @@ impl<F: File + Send, P: Filter + Sync> PassMachine for SwappedMachine<F, P> {
         rt: &Rt,
         batch: &Batch,
     ) -> Result<(), NoMemory> {
-        match &mut self.feeder {
+        match &mut self.streaming {
             Some(own) => prepare_pass(
                 rt,
                 &mut self.shared,
                 own,
                 &mut self.streams,
-                &mut self.drawers,
+                &mut self.sampling,
                 batch,
             ),
             None => unreachable!(),
@@ -183,12 +183,16 @@ impl<F: File + Send, P: Filter + Sync> PassMachine for SwappedMachine<F, P> {
         &mut self,
         _shot: &Shot<'_>,
         _batch: &Batch,
-    ) -> (Items<QueuedLoader<F>>, Items<SwapDrawer>, SwapFeeder) {
-        let own = mem::replace(&mut self.feeder, None);
+    ) -> (
+        Items<QueuedLoader<F>>,
+        Items<SwapSamplerTask>,
+        SwapStreamerTask,
+    ) {
+        let own = mem::replace(&mut self.streaming, None);
         match own {
             Some(mut own) => {
                 let loaders = self.streams.detach(&self.shared.queues, &mut own.answers);
-                let tasks = self.drawers.detach();
+                let tasks = self.sampling.detach();
                 (loaders, tasks, own)
             }
             None => unreachable!(),
@@ -203,13 +207,13 @@ impl<F: File + Send, P: Filter + Sync> PassMachine for SwappedMachine<F, P> {
         &mut self,
         _rt: &Rt,
         loaders: Items<QueuedLoader<F>>,
-        samplers: Items<SwapDrawer>,
-        mut streamer: SwapFeeder,
+        samplers: Items<SwapSamplerTask>,
+        mut streamer: SwapStreamerTask,
         shot: &Shot<'_>,
         batch: &Batch,
         _gate: &G,
     ) -> Result<PassReport, NoMemory>
-        requires { (b : Begun F) × MayFinish F.File P.Filter self.old.slots self.old.queues self.old.feeder self.old.streams self.old.drawers
+        requires { (b : Begun F) × MayFinish F.File P.Filter self.old.slots self.old.queues self.old.streaming self.old.streams self.old.sampling
             (job_of shot.now batch.now.elements) loaders.elements samplers.elements streamer b }
         ensures { SwapFinishes F.File P.Filter (job_of shot.now batch.now.elements) result
             self.old loaders.elements samplers.elements streamer self.new }
@@ -217,14 +221,14 @@ impl<F: File + Send, P: Filter + Sync> PassMachine for SwappedMachine<F, P> {
         let report = end_pass::<F, P>(
             &self.shared,
             &mut self.streams,
-            &mut self.drawers,
+            &mut self.sampling,
             loaders,
             samplers,
             &mut streamer,
             shot,
             batch,
         );
-        let gone = mem::replace(&mut self.feeder, Some(streamer));
+        let gone = mem::replace(&mut self.streaming, Some(streamer));
         match gone {
             None => {}
             Some(_) => unreachable!(),
@@ -233,29 +237,29 @@ impl<F: File + Send, P: Filter + Sync> PassMachine for SwappedMachine<F, P> {
     }
 
     fn journal(&self) -> &Journal {
-        match &self.feeder {
+        match &self.streaming {
             Some(own) => own.streamer.journal(),
             None => unreachable!(),
         }
     }
 
     fn counts(&self) -> &Counts {
-        self.drawers.counts()
+        self.sampling.counts()
     }
 
     fn picture(&self, alloc: Global) -> Result<Vec<u8>, NoMemory> {
-        self.drawers.picture(alloc)
+        self.sampling.picture(alloc)
     }
 
     fn end<Rt: Threads + Wait + Sync>(self, rt: &Rt) -> Stores<Self::File> {
-        let SwappedMachine {
+        let SwapMachineBy {
             shared: _,
-            feeder,
+            streaming,
             streams,
-            drawers: _,
+            sampling: _,
         } = self;
-        match feeder {
-            Some(own) => end_feeder(rt, own),
+        match streaming {
+            Some(own) => end_streaming(rt, own),
             None => {}
         }
         streams.end()

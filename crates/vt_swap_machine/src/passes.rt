@@ -11,26 +11,26 @@ ghost use Rattle.vt_loading.specs.Crews.{last_start};
 ghost use Rattle.vt_loading.specs.Outcomes.{IsBatchFor};
 ghost use Rattle.vt_loading.specs.Jobs.{job_of};
 ghost use Rattle.vt_swap.specs.Slots.{AreSlotsOf};
-ghost use Rattle.vt_swap.specs.Streamers.{HasMapped, IsRefused};
+ghost use Rattle.vt_swap.specs.Streamers.{HasMapped, IsSwapRefused};
 ghost use Rattle.vt_swap.specs.Making.{IsNewStreamer};
-ghost use Rattle.vt_loading.specs.StreamKits.{IsSameStream, HasEndedStream};
-ghost use Rattle.vt_swap_machine.specs.DrawKits.{HasReader, IsDrawKit};
-ghost use Rattle.vt_swap_machine.specs.SwapPasses.{HasTold};
+ghost use Rattle.vt_loading.specs.LoaderPools.{IsSameStream, HasEndedStream};
+ghost use Rattle.vt_swap_machine.specs.SamplerPools.{HasReader, IsSamplerPool};
+ghost use Rattle.vt_swap_machine.specs.SwapPasses.{HasReported};
 ghost use Rattle.vt_swap_machine.specs.SwapMachines.{IsIdleSwap, IsReadySwap, Begun, MayFinish};
 
-use crate::draw_kit::DrawKit;
+use crate::sampler_pool::SamplerPool;
 use std::alloc::Global;
 use std::sync::Wait;
 use std::thread::Threads;
 use vt_camera::Path;
 use vt_evict::Batch;
 use vt_load::QueuedLoader;
-use vt_loading::{PassReport, StreamKit};
+use vt_loading::{LoaderPool, PassReport};
 use vt_outside::{File, Items, NoMemory};
 use vt_pages::Geometry;
 use vt_pictures::{Filter, Shot};
 use vt_swap::{Slot, SwapStreamer, new_cache};
-use vt_swap_workers::{SwapDrawer, SwapFeeder, SwapShared};
+use vt_swap_workers::{SwapSamplerTask, SwapShared, SwapStreamerTask};
 
 /// A page cache that maps nothing: its streamer, a slot for each frame, and what samplers with its readers are done with. It may wait.
 pub(crate) fn cache_for<R: Wait>(
@@ -41,7 +41,7 @@ pub(crate) fn cache_for<R: Wait>(
     frames: u32,
     samplers: u32,
     depth: u32,
-) -> Result<(SwapStreamer, Items<Slot>, DrawKit), NoMemory>
+) -> Result<(SwapStreamer, Items<Slot>, SamplerPool), NoMemory>
     requires some { 1 ≤ samplers }
     requires few { samplers ≤ most_samplers }
     requires depth { IsDepth depth }
@@ -49,7 +49,7 @@ pub(crate) fn cache_for<R: Wait>(
     ensures slots { IfOk result (λ made. AreSlotsOf made.0.cache made.1.elements) }
     ensures pages { IfOk result (λ made. made.0.cache.pages ≡ pages_of geometry.now) }
     ensures frames { IfOk result (λ made. length made.1.elements ≡ frames) }
-    ensures kit { IfOk result (λ made. IsDrawKit made.2 made.2.tasks.elements) }
+    ensures pool { IfOk result (λ made. IsSamplerPool made.2 made.2.tasks.elements) }
     ensures readers { IfOk result (λ made. All (HasReader made.0.cache) made.2.tasks.elements) }
     ensures geometry { IfOk result (λ made. made.2.geometry ≡ geometry.now) }
     ensures depth { IfOk result (λ made. made.2.depth ≡ depth) }
@@ -60,8 +60,8 @@ pub(crate) fn cache_for<R: Wait>(
 {
     let pages = geometry.page_count();
     let (streamer, slots, readers) = new_cache(rt, alloc, pages, frames, samplers)?;
-    match DrawKit::new(alloc, geometry, path, samplers, depth, readers) {
-        Ok(drawers) => Ok((streamer, slots, drawers)),
+    match SamplerPool::new(alloc, geometry, path, samplers, depth, readers) {
+        Ok(sampling) => Ok((streamer, slots, sampling)),
         Err(refusal) => {
             streamer.end(rt);
             Err(refusal)
@@ -70,8 +70,8 @@ pub(crate) fn cache_for<R: Wait>(
 }
 
 /// Ends a streamer. It may wait.
-pub(crate) fn end_feeder<R: Wait>(rt: &R, own: SwapFeeder) {
-    let SwapFeeder {
+pub(crate) fn end_streaming<R: Wait>(rt: &R, own: SwapStreamerTask) {
+    let SwapStreamerTask {
         streamer,
         geometry: _,
         depth: _,
@@ -86,7 +86,7 @@ pub(crate) fn end_feeder<R: Wait>(rt: &R, own: SwapFeeder) {
 pub(crate) fn place_page<R: Wait>(
     rt: &R,
     slots: &[Slot],
-    own: &mut SwapFeeder,
+    own: &mut SwapStreamerTask,
     page: u32,
     frame: u32,
     tile: &[u8],
@@ -101,7 +101,7 @@ pub(crate) fn place_page<R: Wait>(
     ensures placed { OnOk result (HasMapped own.old.depth (own.old.geometry.tile * own.old.geometry.tile) tile.now
         own.old.streamer own.new.streamer page frame) }
     ensures went_on { OnOk result (own.old.streamer.broken ≡ false) }
-    ensures refused { OnErr result (IsRefused own.old.streamer own.new.streamer) }
+    ensures refused { OnErr result (IsSwapRefused own.old.streamer own.new.streamer) }
     ensures still { OnErr result (own.new.streamer.broken ≡ false → own.old.streamer.broken ≡ false) }
     ensures rest { own.new ≡ record own.old { streamer = own.new.streamer } }
 {
@@ -118,27 +118,27 @@ pub(crate) fn place_page<R: Wait>(
 pub(crate) fn prepare_pass<Rt: Threads + Wait, F: File, P: Filter>(
     rt: &Rt,
     shared: &mut SwapShared<P>,
-    own: &mut SwapFeeder,
-    streams: &mut StreamKit<F>,
-    drawers: &mut DrawKit,
+    own: &mut SwapStreamerTask,
+    streams: &mut LoaderPool<F>,
+    sampling: &mut SamplerPool,
     batch: &Batch,
 ) -> Result<(), NoMemory>
-    requires idle { IsIdleSwap F.File shared.old.slots own.old streams.old drawers.old }
+    requires idle { IsIdleSwap F.File shared.old.slots own.old streams.old sampling.old }
     requires lawful { IsBatchFor own.old.geometry (length shared.old.slots.elements) (newest own.old.streamer.journal) batch.now.elements }
     requires few { length batch.now.elements ≤ streams.old.crew.batch }
     requires early { length own.old.streamer.journal ≤ last_start }
     ensures ready { OnOk result
-        (IsReadySwap F.File shared.new.slots shared.new.queues shared.new.start own.new streams.new drawers.new batch.now.elements) }
+        (IsReadySwap F.File shared.new.slots shared.new.queues shared.new.start own.new streams.new sampling.new batch.now.elements) }
     ensures slots { shared.new.slots ≡ shared.old.slots }
     ensures streamer { own.new.streamer ≡ own.old.streamer }
     ensures streams { IsSameStream F.File streams.old streams.new }
-    ensures sides { (drawers.new.width ≡ drawers.old.width) × (drawers.new.height ≡ drawers.old.height) }
+    ensures sides { (sampling.new.width ≡ sampling.old.width) × (sampling.new.height ≡ sampling.old.height) }
 {
     if own.streamer.is_broken() {
         return Err(NoMemory);
     }
     streams.prepare(&mut shared.queues, &mut own.answers, &mut own.report, batch)?;
-    drawers.prepare()?;
+    sampling.prepare()?;
     shared.start = own.streamer.journal().version();
     streams.ask(rt, &shared.queues, batch);
     Ok(())
@@ -147,26 +147,26 @@ pub(crate) fn prepare_pass<Rt: Threads + Wait, F: File, P: Filter>(
 /// Ends the round of the loaders, moves the samplers back, and tells what the pass did, if memory was not refused.
 pub(crate) fn end_pass<F: File, P: Filter>(
     shared: &SwapShared<P>,
-    streams: &mut StreamKit<F>,
-    drawers: &mut DrawKit,
+    streams: &mut LoaderPool<F>,
+    sampling: &mut SamplerPool,
     loaders: Items<QueuedLoader<F>>,
-    samplers: Items<SwapDrawer>,
-    own: &mut SwapFeeder,
+    samplers: Items<SwapSamplerTask>,
+    own: &mut SwapStreamerTask,
     shot: &Shot<'_>,
     batch: &Batch,
 ) -> Result<PassReport, NoMemory>
-    requires { (b : Begun F) × MayFinish F.File P.Filter shared.now.slots shared.now.queues None streams.old drawers.old
+    requires { (b : Begun F) × MayFinish F.File P.Filter shared.now.slots shared.now.queues None streams.old sampling.old
         (job_of shot.now batch.now.elements) loaders.elements samplers.elements own.old b }
-    ensures ended { (b : Begun F) → MayFinish F.File P.Filter shared.now.slots shared.now.queues None streams.old drawers.old
+    ensures ended { (b : Begun F) → MayFinish F.File P.Filter shared.now.slots shared.now.queues None streams.old sampling.old
         (job_of shot.now batch.now.elements) loaders.elements samplers.elements own.old b
         → HasEndedStream F.File streams.old streams.new batch.now.elements own.old.report b.stream }
     ensures own { own.new ≡ record own.old { answers = own.new.answers; report = own.new.report } }
-    ensures drawers { drawers.new ≡ record drawers.old {
+    ensures sampling { sampling.new ≡ record sampling.old {
       tasks = samplers;
-      counts = drawers.new.counts;
-      lines = drawers.new.lines;
+      counts = sampling.new.counts;
+      lines = sampling.new.lines;
     } }
-    ensures told { IfOk result (λ report. HasTold drawers.old drawers.new samplers.elements own.old report.rows.elements) }
+    ensures reported { IfOk result (λ report. HasReported sampling.old sampling.new samplers.elements own.old report.rows.elements) }
     ensures events { IfOk result (λ report. report.events.elements ≡ own.old.report.events.elements) }
     ensures losses { IfOk result (λ report. report.losses.elements ≡ own.old.report.losses.elements) }
 {
@@ -176,7 +176,7 @@ pub(crate) fn end_pass<F: File, P: Filter>(
         &mut own.answers,
         &mut own.report,
     );
-    let rows = drawers.finish(samplers, own)?;
+    let rows = sampling.finish(samplers, own)?;
     Ok(PassReport {
         rows,
         events,

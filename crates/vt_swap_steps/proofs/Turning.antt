@@ -22,8 +22,8 @@ use Rattle.vt_swap_steps.specs.declared.rule.Known.{Known}
 use Rattle.vt_swap_log.specs.Logs.{changes_in}
 use Rattle.vt_swap_steps.specs.Entries.{changed_entries, IsAt}
 use Rattle.vt_swap_log.specs.Caches.{Cache, cache_of, AreOfOneLog}
-use Rattle.vt_swap_steps.specs.Tables.{shown, applied, journal_of, IsTable, MayPublish}
-use Rattle.vt_swap_steps.specs.Rules.{nothing_known, Knows, IsKept, HasEntered, HasPublished}
+use Rattle.vt_swap_steps.specs.Tables.{shown, applied, journal_of, IsNewestTable, MayPublish}
+use Rattle.vt_swap_steps.specs.Rules.{nothing_known, Knows, IsNewestKept, HasEnteredVersion, KnowsItsLog}
 
 -- the entry of a page after another entry was set
 entry_set : (entries : List ℕ) (m : Table) (page number : ℕ) (entry : Option ℕ) → entry_of number ≡ entry
@@ -89,7 +89,7 @@ knows_nothing : (t : NewestTable) → Knows t nothing_known
 knows_nothing t = record { one_log = λ f is. cc; not_later = All-nil (λ (version : ℕ). version ≤ t.version) }
 
 -- whoever enters sees the whole journal as it is then
-pub enters : (seat : ℕ) (v : Known) (x : NewestTable) → TurnsAt IsKept seat v x x HasEntered
+pub enters : (seat : ℕ) (v : Known) (x : NewestTable) → TurnsAt IsNewestKept seat v x x HasEnteredVersion
 enters seat v x views k at =
     let mine = k.knows seat v at in
     let w : Known = record { front = v.front; entered = x.version ∷ v.entered } in
@@ -103,8 +103,8 @@ enters seat v x views k at =
     )
 
 -- what is published later of the same log keeps the rule
-moves_on : (seat : ℕ) (v : Known) (x y : NewestTable) → AreOfOneLog y.front x.front → (IsTable x → IsTable y × (x.version ≤ y.version))
-    → TurnsAt IsKept seat v x y HasPublished
+moves_on : (seat : ℕ) (v : Known) (x y : NewestTable) → AreOfOneLog y.front x.front → (IsNewestTable x → IsNewestTable y × (x.version ≤ y.version))
+    → TurnsAt IsNewestKept seat v x y KnowsItsLog
 moves_on seat v x y cache later views k at =
     let next = later k.table in
     let w : Known = record { front = Some y.front; entered = v.entered } in
@@ -124,7 +124,7 @@ moves_on seat v x y cache later views k at =
     )
 
 -- the writer publishes nothing new
-pub begins : (seat : ℕ) (v : Known) (x y : NewestTable) → shown y ≡ shown x → TurnsAt IsKept seat v x y HasPublished
+pub begins : (seat : ℕ) (v : Known) (x y : NewestTable) → shown y ≡ shown x → TurnsAt IsNewestKept seat v x y KnowsItsLog
 begins seat v x y same =
     let front : y.front ≡ x.front = ap (λ (s : TableState). s.front) same in
     let version : y.version ≡ x.version = ap (λ (s : TableState). s.version) same in
@@ -134,7 +134,7 @@ begins seat v x y same =
 -- the table after a change that was noted
 published_table : (x y : NewestTable) (o : Operation) → AreOfOneLog x.front o.front → changes_in o.front.seen.log ≡ journal_of x.front ++ o.change ∷ []
     → length (changes_in o.front.seen.log) ≤ most_versions → change_frame o.change + 1 < 2 ^ 32 → shown y ≡ applied (shown x) o
-    → IsTable x → IsTable y × (x.version ≤ y.version)
+    → IsNewestTable x → IsNewestTable y × (x.version ≤ y.version)
 published_table x y o cache journal early small same table =
     let js : List Change = journal_of x.front in
     let few : length (js ++ o.change ∷ []) ≤ most_versions = subst (λ (l : List Change). length l ≤ most_versions) journal early in
@@ -143,32 +143,32 @@ published_table x y o cache journal early small same table =
     subst (λ (l : List Change). IsAt x.front.pages l ((x.version + 1) % 2 ^ 64) (changed_entries x.entries.items o.change)) (sym journal) next in
     let here : IsAt o.front.pages (changes_in o.front.seen.log) ((x.version + 1) % 2 ^ 64) (changed_entries x.entries.items o.change) =
     subst (λ (c : Cache). IsAt c.pages (changes_in o.front.seen.log) ((x.version + 1) % 2 ^ 64) (changed_entries x.entries.items o.change)) cache noted in
-    let is : IsTable y = subst (λ (s : TableState). IsAt s.front.pages (changes_in s.front.seen.log) s.version s.entries) (sym same) here in
+    let is : IsNewestTable y = subst (λ (s : TableState). IsAt s.front.pages (changes_in s.front.seen.log) s.version s.entries) (sym same) here in
     (is, omega (arith, ap (λ (s : TableState). s.version) same, next.version_is, length-append js (o.change ∷ []), table.version_is))
 
 -- the writer publishes a change that was noted
 pub publishes : (seat : ℕ) (v : Known) (x y : NewestTable) (o : Operation) (pending : List Operation) → MayPublish x pending o.change o.front
-    → shown y ≡ applied (shown x) o → TurnsAt IsKept seat v x y HasPublished
+    → shown y ≡ applied (shown x) o → TurnsAt IsNewestKept seat v x y KnowsItsLog
 publishes seat v x y o pending may same =
     let front : y.front ≡ o.front = ap (λ (s : TableState). s.front) same in
     moves_on seat v x y (ap (λ (g : Front). cache_of g) front ∙ sym may.cache)
     (published_table x y o may.cache may.journal may.early may.frame same)
 
-pub admits : Admits IsKept nothing_known
+pub admits : Admits IsNewestKept nothing_known
 admits x views k = record {
   table = k.table;
   knows = λ j u e. ⊎_elim (λ there. k.knows j u there) (λ (same : nothing_known ≡ u). subst (λ (z : Known). Knows x z) same (knows_nothing x))
       (at_snoc views nothing_known u j e);
 }
 
-pub forks : (seat : ℕ) (v : Known) → Forks IsKept seat v v v
+pub forks : (seat : ℕ) (v : Known) → Forks IsNewestKept seat v v v
 forks seat v x views k at = record {
   table = k.table;
   knows = λ j u e. ⊎_elim (λ there. known_set x views seat v k.knows (k.knows seat v at) j u there)
       (λ (same : v ≡ u). subst (λ (z : Known). Knows x z) same (k.knows seat v at)) (at_snoc (set views seat v) v u j e);
 }
 
-pub merges : (seat : ℕ) (v : Known) (other : ℕ) (w : Known) → Merges IsKept seat v other w (record { front = w.front; entered = v.entered }) nothing_known
+pub merges : (seat : ℕ) (v : Known) (other : ℕ) (w : Known) → Merges IsNewestKept seat v other w (record { front = w.front; entered = v.entered }) nothing_known
 merges seat v other w x views k at apart there =
     let both : Known = record { front = w.front; entered = v.entered } in
     let theirs : Knows x w = ⊎_elim (λ (t : (other ≡ seat) × (both ≡ w)). absurd (apart t.0))
@@ -193,7 +193,7 @@ none_there : (j : ℕ) (u : Known) → get_elem? [] j ≡ some u → ⊥
 none_there j u e = cc
 
 pub kept_first : (t : NewestTable) → t.version ≡ 0 → t.entries.items ≡ replicate t.front.pages 0 → t.front.seen.log ≡ []
-    → IsKept t (nothing_known ∷ [])
+    → IsNewestKept t (nothing_known ∷ [])
 kept_first t version entries log = record {
   table = record {
     count = ap length entries ∙ length-replicate t.front.pages 0;

@@ -28,8 +28,8 @@ abbrev pub journal_of : Front → List Change
 journal_of f = changes_in f.seen.log
 
 -- a table is that of all changes in what was seen of the log when it was made, and has an entry for each page of the cache
-abbrev pub IsTable : NewestTable → Type 0
-IsTable t = IsAt t.front.pages (journal_of t.front) t.version t.entries.items
+abbrev pub IsNewestTable : NewestTable → Type 0
+IsNewestTable t = IsAt t.front.pages (journal_of t.front) t.version t.entries.items
 
 -- all is published: the table is of the newest version, what was seen of the log since tells no change, and no operation waits
 pub record IsPublished (t : NewestTable) (pending : List Operation) (front : Front) : Type 0 where

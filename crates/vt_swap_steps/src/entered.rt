@@ -4,7 +4,7 @@ ghost use Rattle.std.specs.Prelude.{◌≡◌, ◌∷◌};
 ghost use mathlib.Core.List.{IsPrefix};
 ghost use Rattle.left_right.specs.Sides.{view};
 ghost use Rattle.vt_swap_log.specs.Caches.{AreOfOneLog};
-ghost use Rattle.vt_swap_steps.specs.Rules.{HasEntered, IsEntered, Knows, KnowsLog};
+ghost use Rattle.vt_swap_steps.specs.Rules.{HasEnteredVersion, IsEntered, Knows, KnowsLog};
 
 use crate::rule::{Enters, Known, OneJournal};
 use crate::table::NewestTable;
@@ -37,7 +37,7 @@ pub fn enter<R: Wait>(rt: &R, reader: LeftRightReader, front: &mut Front) -> (En
 
 // Enters the version that was published last, once there is one.
 fn enter_when_there<R: Wait>(rt: &R, reader: LeftRightReader) -> EnteredTable
-    ensures { HasEntered (view reader.place) result.part.value result.part.value (view result.place) }
+    ensures { HasEnteredVersion (view reader.place) result.part.value result.part.value (view result.place) }
 {
     let mut reader = reader;
     for _ in rt.forever() {

@@ -18,9 +18,9 @@ pub struct Known {
 pub struct OneJournal;
 
 impl Protocol<NewestTable, Known> for OneJournal {
-    ghost use Rattle.vt_swap_steps.specs.Rules.{IsKept, nothing_known};
+    ghost use Rattle.vt_swap_steps.specs.Rules.{IsNewestKept, nothing_known};
 
-    ghost holds = { IsKept };
+    ghost holds = { IsNewestKept };
 
     ghost first = { nothing_known };
 }
@@ -29,18 +29,18 @@ impl Protocol<NewestTable, Known> for OneJournal {
 pub(crate) struct Enters;
 
 impl Outcome<NewestTable, Known> for Enters {
-    ghost use Rattle.vt_swap_steps.specs.Rules.{HasEntered};
+    ghost use Rattle.vt_swap_steps.specs.Rules.{HasEnteredVersion};
 
-    ghost then = { HasEntered };
+    ghost then = { HasEnteredVersion };
 }
 
 /// The writer publishes what it has, and knows which log it is.
 pub struct Publishes;
 
 impl Outcome<NewestTable, Known> for Publishes {
-    ghost use Rattle.vt_swap_steps.specs.Rules.{HasPublished};
+    ghost use Rattle.vt_swap_steps.specs.Rules.{KnowsItsLog};
 
-    ghost then = { HasPublished };
+    ghost then = { KnowsItsLog };
 }
 
 /// The writer tells a reader which log it is.

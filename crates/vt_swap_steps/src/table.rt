@@ -2,9 +2,9 @@
 
 ghost use Rattle.std.specs.Prelude.{◌≡◌, ◌<◌, ◌≤◌, [], ◌∷◌, replicate, slice_set, IfOk, IfSome, MatchOption};
 ghost use Rattle.vt_swap_steps.specs.Entries.{changed_entries};
-ghost use Rattle.vt_swap_steps.specs.Tables.{IsTable, shown};
-ghost use Rattle.vt_swap_steps.specs.Rules.{IsKept, nothing_known};
-ghost use Rattle.vt_swap_log.specs.Told.{IsEntry};
+ghost use Rattle.vt_swap_steps.specs.Tables.{IsNewestTable, shown};
+ghost use Rattle.vt_swap_steps.specs.Rules.{IsNewestKept, nothing_known};
+ghost use Rattle.vt_swap_log.specs.LogWords.{IsEntry};
 
 use left_right::Absorb;
 use std::alloc::{AllocError, Global};
@@ -46,7 +46,7 @@ pub fn first_table(alloc: Global, front: &Front) -> Result<NewestTable, NoMemory
     ensures shown { IfOk result
         (λ t. shown t ≡ record { version = 0; entries = replicate front.now.pages 0; front = front.now }) }
     ensures front { IfOk result (λ t. t.front ≡ front.now) }
-    ensures kept { IfOk result (λ t. IsKept t (nothing_known ∷ [])) }
+    ensures kept { IfOk result (λ t. IsNewestKept t (nothing_known ∷ [])) }
 {
     let entries = Vec::from_elem(alloc, 0, front.pages as usize)?;
     Ok(NewestTable {
@@ -59,7 +59,7 @@ pub fn first_table(alloc: Global, front: &Front) -> Result<NewestTable, NoMemory
 /// The entry of a page; `None` where the cache has no such page.
 #[inline(always)]
 pub fn entry_of(table: &NewestTable, page: u32) -> Option<u32>
-    requires { IsTable table.now }
+    requires { IsNewestTable table.now }
     ensures entry { IfSome result (IsEntry table.now.front.seen.log table.now.version page) }
     ensures inside { MatchOption result (table.now.front.pages ≤ page) (λ entry. page < table.now.front.pages) }
 {

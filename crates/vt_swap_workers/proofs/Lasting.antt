@@ -23,7 +23,7 @@ use Rattle.vt_streaming.specs.BlankReports.{IsBlank}
 use Rattle.vt_swap.specs.LogTypes.records.LogRecord.{LogRecord}
 use Rattle.vt_swap.specs.LogTypes.records.LogRecord.TheVariants.{Filled}
 use Rattle.vt_swap.specs.Streamers.{StreamerView}
-use Rattle.vt_swap_workers.specs.Brought.{HasStreamed, HasApplied, HasKept, AreFillsOf, IsUnderWay}
+use Rattle.vt_swap_workers.specs.Brought.{HasBroughtAll, HasApplied, HasKeptResult, AreFillsOf, IsSwapUnderWay}
 use Rattle.vt_swap_workers.proofs.Taking.{flag_was, flag_set}
 
 no_fills : (d texels : ℕ) (batch : List Planned) (results : List Loaded) → AreFillsOf d texels batch results []
@@ -46,8 +46,8 @@ fills_both d texels batch results (r ∷ rs) ss one two (suc n) frame page words
     fills_both d texels batch results rs ss (λ k f p w is. one (suc k) f p w is) two n frame page words at
 
 -- one result more was applied
-streamed_more : (d texels : ℕ) (batch : List Planned) (results : List Loaded) (x : Loaded) (u v w : StreamerView) → HasStreamed d texels batch results u v
-    → HasApplied d texels batch x v w → HasStreamed d texels batch (results ++ x ∷ []) u w
+streamed_more : (d texels : ℕ) (batch : List Planned) (results : List Loaded) (x : Loaded) (u v w : StreamerView) → HasBroughtAll d texels batch results u v
+    → HasApplied d texels batch x v w → HasBroughtAll d texels batch (results ++ x ∷ []) u w
 streamed_more d texels batch results x u v w one two =
     let events : result_events batch (results ++ x ∷ []) ≡ result_events batch results ++ result_group batch x =
     flat_map-append (result_group batch) results (x ∷ []) ∙ ap (λ (l : List Event). result_events batch results ++ l) (append-nil (result_group batch x)) in
@@ -80,8 +80,8 @@ entries_apart s frames m batch lawful i j e f other at there = order (cases_lt i
   order (inr least) (inr most) = absurd (other (omega (arith, least, most)))
 
 module _ (d texels : ℕ) (s : Shape) (frames : ℕ) (batch : List Planned) (start : StreamerView) (lawful : IsBatchFor s frames (newest start.journal) batch) where
-  pub begun : (r : StreamReport) → IsBlank (length batch) r → IsUnderWay d texels s frames batch start start r.events.elements r
-  begun r blank = subst (λ (results : List Loaded). IsUnderWay d texels s frames batch start start r.events.elements
+  pub begun : (r : StreamReport) → IsBlank (length batch) r → IsSwapUnderWay d texels s frames batch start start r.events.elements r
+  begun r blank = subst (λ (results : List Loaded). IsSwapUnderWay d texels s frames batch start start r.events.elements
       (record r { results = record r.results { elements = results } }))
       (sym blank.no_results) (record {
         streamed = record {
@@ -96,10 +96,10 @@ module _ (d texels : ℕ) (s : Shape) (frames : ℕ) (batch : List Planned) (sta
         room = let a = blank.events_room in omega (arith, a);
       })
 
-  pub under_way : (v w : StreamerView) (before : List Event) (r q : StreamReport) (x : Loaded) → IsUnderWay d texels s frames batch start v before r
+  pub under_way : (v w : StreamerView) (before : List Event) (r q : StreamReport) (x : Loaded) → IsSwapUnderWay d texels s frames batch start v before r
       → get_or r.taken.elements x.request.ticket false ≡ false → x.request.ticket < length batch → length r.taken.elements ≡ length batch
-      → HasApplied d texels batch x v w → q.events.elements ≡ r.events.elements ++ result_group batch x → HasKept x r q
-      → IsUnderWay d texels s frames batch start w before q
+      → HasApplied d texels batch x v w → q.events.elements ≡ r.events.elements ++ result_group batch x → HasKeptResult x r q
+      → IsSwapUnderWay d texels s frames batch start w before q
   under_way v w before r q x h new inside flags applied noted kept =
       let t : ℕ = x.request.ticket in
       let e : Planned = get_or batch t (record { page = 0; frame = 0; victim = None }) in
@@ -110,7 +110,7 @@ module _ (d texels : ℕ) (s : Shape) (frames : ℕ) (batch : List Planned) (sta
       let events : result_events batch (results ++ x ∷ []) ≡ result_events batch results ++ result_group batch x =
       flat_map-append (result_group batch) results (x ∷ []) ∙ ap (λ (l : List Event). result_events batch results ++ l) (append-nil (result_group batch x)) in
       record {
-        streamed = subst (λ (l : List Loaded). HasStreamed d texels batch l start w) (sym kept.results)
+        streamed = subst (λ (l : List Loaded). HasBroughtAll d texels batch l start w) (sym kept.results)
             (streamed_more d texels batch results x start v w h.streamed applied);
         events = noted ∙ ap (λ (l : List Event). l ++ result_group batch x) h.events
             ∙ append_assoc before (result_events batch results) (result_group batch x)
@@ -134,10 +134,10 @@ module _ (d texels : ℕ) (s : Shape) (frames : ℕ) (batch : List Planned) (sta
 pub losses_more : (batch : List Planned) (results : List Loaded) (losses taken : List Bool) (x : Loaded) → AreLossesOf batch results losses
     → All (λ y. slice_index_or taken y.request.ticket false ≡ true) results → get_or taken x.request.ticket false ≡ false
     → x.request.ticket < length batch → AreLossesOf batch (results ++ x ∷ []) (set losses x.request.ticket (is_lost x.outcome))
-losses_more batch results losses taken x h marked new inside = let t = x.request.ticket in let lost = is_lost x.outcome in let told = h.told in record {
-  told = length-set losses t lost ∙ h.told;
+losses_more batch results losses taken x h marked new inside = let t = x.request.ticket in let lost = is_lost x.outcome in let reported = h.reported in record {
+  reported = length-set losses t lost ∙ h.reported;
   each = All-push (λ (y : Loaded). get_or (set losses t lost) y.request.ticket true ≡ is_lost y.outcome) results x
       (λ k d low. get_or-set_other losses t (get_or results k d).request.ticket lost true
       (λ same. false≢true (sym new ∙ ap (λ (n : ℕ). get_or taken n false) (sym same) ∙ marked k d low)) ∙ h.each k d low)
-      (get_or-set_same losses t lost true (omega (arith, told, inside)));
+      (get_or-set_same losses t lost true (omega (arith, reported, inside)));
 }

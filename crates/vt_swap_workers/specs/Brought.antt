@@ -35,7 +35,7 @@ AreFillsOf d texels batch results log = (n frame page : ℕ) (words : List ℕ) 
     → IsFillOf d texels batch results page words
 
 -- a writer made the changes of the results of a batch, in the order in which they came, with fills from their buffers
-pub record HasStreamed (d texels : ℕ) (batch : List Planned) (results : List Loaded) (v w : StreamerView) : Type 0 where
+pub record HasBroughtAll (d texels : ℕ) (batch : List Planned) (results : List Loaded) (v w : StreamerView) : Type 0 where
   pub journal : w.journal ≡ v.journal ++ changes_of (result_events batch results)
   pub added : List LogRecord
   pub log : w.log ≡ v.log ++ added
@@ -56,7 +56,7 @@ pub record HasApplied (d texels : ℕ) (batch : List Planned) (result : Loaded) 
   pub fills : AreFillsOf d texels batch (result ∷ []) added
 
 -- a result was noted: whether it is lost, that it was taken, and the result itself
-pub record HasKept (result : Loaded) (r t : StreamReport) : Type 0 where
+pub record HasKeptResult (result : Loaded) (r t : StreamReport) : Type 0 where
   pub losses : t.losses.elements ≡ slice_set r.losses.elements result.request.ticket (is_lost result.outcome)
   pub taken : t.taken.elements ≡ slice_set r.taken.elements result.request.ticket true
   pub results : t.results.elements ≡ r.results.elements ++ result ∷ []
@@ -64,8 +64,8 @@ pub record HasKept (result : Loaded) (r t : StreamReport) : Type 0 where
   pub events_room : r.events.spare ≤ t.events.spare + 2
 
 -- results were streamed, and each entry whose result was not taken is lawful for the table as it is now
-pub record IsUnderWay (d texels : ℕ) (s : Shape) (frames : ℕ) (batch : List Planned) (start v : StreamerView) (before : List Event) (r : StreamReport) : Type 0 where
-  pub streamed : HasStreamed d texels batch r.results.elements start v
+pub record IsSwapUnderWay (d texels : ℕ) (s : Shape) (frames : ℕ) (batch : List Planned) (start v : StreamerView) (before : List Event) (r : StreamReport) : Type 0 where
+  pub streamed : HasBroughtAll d texels batch r.results.elements start v
   pub events : r.events.elements ≡ before ++ result_events batch r.results.elements
   pub ahead : (k : ℕ) (e : Planned) → slice_get batch k ≡ Some e → slice_index_or r.taken.elements k false ≡ false
       → IsEntryFor s frames (newest v.journal) e

@@ -10,7 +10,7 @@ use Rattle.vt_sampler.specs.PicturesTypes.filters.Filter.{Ghosts as FilterMeanin
 use Rattle.vt_sampler.specs.Evidence.{AreShown}
 use Rattle.vt_evict.specs.PlanTypes.batches.Planned.{Planned}
 use Rattle.vt_streaming.specs.Outcomes.{IsBatchFor}
-use Rattle.vt_queue.specs.Queues.{view_of, splits_of, IsOf}
+use Rattle.vt_queue.specs.Queues.{queue_view_of, queue_splits_of, IsPassOfQueue}
 use Rattle.vt_load.specs.declared.queued.Queues.{Queues}
 use Rattle.vt_streaming.specs.BatchRounds.{result_events, AreLossesOf}
 use Rattle.vt_streaming.specs.TakenResults.{Streams}
@@ -20,12 +20,12 @@ use Rattle.vt_swap.specs.Slots.{AreSlotsOf}
 use Rattle.vt_swap.specs.Notes.{IsSaidBy}
 use Rattle.vt_swap.specs.Readers.{ReaderView, WasEntered}
 use Rattle.vt_swap_workers.specs.Entered.{WasEnteredBetween, HasEnteredRows}
-use Rattle.vt_swap_workers.specs.Brought.{HasStreamed}
-use Rattle.vt_swap_workers.specs.declared.workers.SwapDrawer.{SwapDrawer}
-use Rattle.vt_swap_workers.specs.declared.workers.SwapFeeder.{SwapFeeder}
+use Rattle.vt_swap_workers.specs.Brought.{HasBroughtAll}
+use Rattle.vt_swap_workers.specs.declared.workers.SwapSamplerTask.{SwapSamplerTask}
+use Rattle.vt_swap_workers.specs.declared.workers.SwapStreamerTask.{SwapStreamerTask}
 
 -- a sampler may draw a picture of a scene over the slots of frames: it is made for it, and has a reader of the same log
-pub record MayDraw (slots : List FrameKey) (scene : Scene) (picture : ℕ) (a : SwapDrawer) : Type 0 where
+pub record MayDraw (slots : List FrameKey) (scene : Scene) (picture : ℕ) (a : SwapSamplerTask) : Type 0 where
   pub for_it : IsFor a.sampler scene.shape scene.path scene.depth
   pub picture_is : picture < length scene.path.cameras
   pub reader : ReaderView
@@ -41,7 +41,7 @@ pub record HasSeen (start : ℕ) (r q : ReaderView) : Type 0 where
 -- a sampler has drawn its rows of a picture of a scene by a filter, by what its reader saw of the log: first the reader saw the version at which the
 -- pass starts; then it entered a version for each row, at which the row was drawn; these never fall from row to row; and the sampler has counted the
 -- texels that the rows want
-pub record HasDrawn {P : Type 0} (filter : FilterMeanings P) (start : ℕ) (scene : Scene) (picture : ℕ) (a b : SwapDrawer) : Type 0 where
+pub record HasDrawn {P : Type 0} (filter : FilterMeanings P) (start : ℕ) (scene : Scene) (picture : ℕ) (a b : SwapSamplerTask) : Type 0 where
   pub number : b.sampler.sampler ≡ a.sampler.sampler
   pub among : b.sampler.samplers ≡ a.sampler.samplers
   pub for_it : IsFor b.sampler scene.shape scene.path scene.depth
@@ -63,11 +63,11 @@ pub record HasDrawn {P : Type 0} (filter : FilterMeanings P) (start : ℕ) (scen
 
 -- the streamer may stream a batch: the slots tell of its log, its pass is one of the results, the batch is lawful for the newest version, and there
 -- is room for what is told
-pub record MayStream (slots : List FrameKey) (q : Queues) (batch : List Planned) (a : SwapFeeder) : Type 0 where
+pub record MayStream (slots : List FrameKey) (q : Queues) (batch : List Planned) (a : SwapStreamerTask) : Type 0 where
   pub slots_are : AreSlotsOf a.streamer.cache slots
   pub few_frames : length slots ≤ most_frames
   pub depth_is : IsDepth a.depth
-  pub answers : IsOf q.results a.answers
+  pub answers : IsPassOfQueue q.results a.answers
   pub lawful : IsBatchFor a.geometry (length slots) (newest a.streamer.journal) batch
   pub few : length batch < 2 ^ 32
   pub early : length a.streamer.journal + 2 * length batch ≤ most_versions
@@ -75,14 +75,14 @@ pub record MayStream (slots : List FrameKey) (q : Queues) (batch : List Planned)
 
 -- the streamer has streamed a batch: it took a result for each entry; and where it was not refused memory, it published the changes of these, and
 -- told of each
-pub record HasFed (q : Queues) (batch : List Planned) (a b : SwapFeeder) : Type 0 where
+pub record HasStreamedSwap (q : Queues) (batch : List Planned) (a b : SwapStreamerTask) : Type 0 where
   pub cache : b.streamer.cache ≡ a.streamer.cache
   pub geometry : b.geometry ≡ a.geometry
   pub depth : b.depth ≡ a.depth
-  pub answers : IsOf q.results b.answers
-  pub splits : splits_of b.answers ≡ splits_of a.answers
-  pub took : Streams (length batch) (view_of a.answers) (view_of b.answers) b.report.taken.elements b.report.results.elements
+  pub answers : IsPassOfQueue q.results b.answers
+  pub splits : queue_splits_of b.answers ≡ queue_splits_of a.answers
+  pub took : Streams (length batch) (queue_view_of a.answers) (queue_view_of b.answers) b.report.taken.elements b.report.results.elements
   pub all : length b.report.results.elements ≡ length batch
   pub losses : AreLossesOf batch b.report.results.elements b.report.losses.elements
-  pub streamed : b.refused ≡ false → HasStreamed a.depth (a.geometry.tile * a.geometry.tile) batch b.report.results.elements a.streamer b.streamer
+  pub streamed : b.refused ≡ false → HasBroughtAll a.depth (a.geometry.tile * a.geometry.tile) batch b.report.results.elements a.streamer b.streamer
   pub events : b.refused ≡ false → b.report.events.elements ≡ a.report.events.elements ++ result_events batch b.report.results.elements

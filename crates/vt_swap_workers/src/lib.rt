@@ -16,4 +16,4 @@ pub use shared::SwapShared;
 pub use stream::stream_swapped;
 pub use tasks::may_be_sent;
 pub use vt_streaming::StreamReport;
-pub use workers::{SwapDrawer, SwapFeeder};
+pub use workers::{SwapSamplerTask, SwapStreamerTask};

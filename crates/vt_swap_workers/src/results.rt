@@ -11,7 +11,7 @@ ghost use Rattle.vt_streaming.specs.Outcomes.{IsEntryFor, group_of, victim_event
 ghost use Rattle.vt_streaming.specs.BatchRounds.{result_group};
 ghost use Rattle.vt_streaming.specs.TakenResults.{is_new};
 ghost use Rattle.vt_swap.specs.Slots.{AreSlotsOf};
-ghost use Rattle.vt_swap_workers.specs.Brought.{HasApplied, HasPut, HasKept, is_kept};
+ghost use Rattle.vt_swap_workers.specs.Brought.{HasApplied, HasPut, HasKeptResult, is_kept};
 
 use std::sync::Wait;
 use vt_evict::{Losses, Planned};
@@ -171,7 +171,7 @@ pub(crate) fn stream_result<R: Wait, G: Gate>(
     ensures before { result ≡ false → refused ≡ false }
     ensures applied { result ≡ false → HasApplied depth texels batch.now loaded streamer.old streamer.new }
     ensures events { result ≡ false → into.new.events.elements ≡ into.old.events.elements ++ result_group batch.now loaded }
-    ensures kept { HasKept loaded into.old into.new }
+    ensures kept { HasKeptResult loaded into.old into.new }
 {
     let refused = refused
         || apply_at(

@@ -4,13 +4,13 @@ ghost use Rattle.std.specs.Prelude.{◌≡◌, ◌+◌, ◌*◌, ◌<◌, ◌≤
 ghost use Rattle.vt_definitions.specs.Depths.{IsDepth};
 ghost use Rattle.vt_definitions.specs.Limits.{most_versions, most_frames};
 ghost use Rattle.vt_journal.specs.Changes.{newest};
-ghost use Rattle.vt_queue.specs.Queues.{view_of, splits_of, IsOf};
+ghost use Rattle.vt_queue.specs.Queues.{queue_view_of, queue_splits_of, IsPassOfQueue};
 ghost use Rattle.vt_streaming.specs.Outcomes.{IsBatchFor};
 ghost use Rattle.vt_streaming.specs.BatchRounds.{result_events, AreLossesOf};
 ghost use Rattle.vt_streaming.specs.TakenResults.{Streams};
 ghost use Rattle.vt_streaming.specs.BlankReports.{IsBlank};
 ghost use Rattle.vt_swap.specs.Slots.{AreSlotsOf};
-ghost use Rattle.vt_swap_workers.specs.Brought.{HasStreamed};
+ghost use Rattle.vt_swap_workers.specs.Brought.{HasBroughtAll};
 
 use crate::results::{is_kept, stream_result};
 use std::sync::Wait;
@@ -43,18 +43,18 @@ pub fn stream_swapped<Rt: Threads + Wait, G: Gate>(
     requires slots { AreSlotsOf streamer.old.cache slots.now }
     requires few_frames { length slots.now ≤ most_frames }
     requires depth { IsDepth depth }
-    requires answers { IsOf results.now answers.old }
+    requires answers { IsPassOfQueue results.now answers.old }
     requires lawful { IsBatchFor geometry.now (length slots.now) (newest streamer.old.journal) batch.now }
     requires few { length batch.now < 2 ^ 32 }
     requires early { length streamer.old.journal + 2 * length batch.now ≤ most_versions }
     requires report { IsBlank (length batch.now) into.old }
     ensures cache { streamer.new.cache ≡ streamer.old.cache }
-    ensures answers { IsOf results.now answers.new × (splits_of answers.new ≡ splits_of answers.old) }
-    ensures took { Streams (length batch.now) (view_of answers.old) (view_of answers.new) into.new.taken.elements
+    ensures answers { IsPassOfQueue results.now answers.new × (queue_splits_of answers.new ≡ queue_splits_of answers.old) }
+    ensures took { Streams (length batch.now) (queue_view_of answers.old) (queue_view_of answers.new) into.new.taken.elements
         into.new.results.elements }
     ensures all { length into.new.results.elements ≡ length batch.now }
     ensures losses { AreLossesOf batch.now into.new.results.elements into.new.losses.elements }
-    ensures streamed { result ≡ false → HasStreamed depth (geometry.now.tile * geometry.now.tile) batch.now
+    ensures streamed { result ≡ false → HasBroughtAll depth (geometry.now.tile * geometry.now.tile) batch.now
         into.new.results.elements streamer.old streamer.new }
     ensures events { result ≡ false → into.new.events.elements
         ≡ into.old.events.elements ++ result_events batch.now into.new.results.elements }

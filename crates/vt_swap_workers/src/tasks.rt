@@ -1,12 +1,12 @@
 //! What samplers and streamer of a pass over a page cache do.
 
 ghost use Rattle.vt_sampler.specs.Scenes.{scene_of};
-ghost use Rattle.vt_swap_workers.specs.SwapTasks.{MayDraw, HasDrawn, MayStream, HasFed};
+ghost use Rattle.vt_swap_workers.specs.SwapTasks.{MayDraw, HasDrawn, MayStream, HasStreamedSwap};
 
 use crate::seen::see;
 use crate::shared::SwapShared;
 use crate::stream::stream_swapped;
-use crate::workers::{SwapDrawer, SwapFeeder};
+use crate::workers::{SwapSamplerTask, SwapStreamerTask};
 use std::mem;
 use std::sync::Wait;
 use std::thread::Threads;
@@ -21,7 +21,7 @@ use vt_swap::Slot;
 // afterwards.
 fn draw_own<P: Filter, G: Gate, Rt: Wait>(
     rt: &Rt,
-    task: &mut SwapDrawer,
+    task: &mut SwapSamplerTask,
     shot: &Shot<'_>,
     slots: &[Slot],
     start: u64,
@@ -47,14 +47,14 @@ fn draw_own<P: Filter, G: Gate, Rt: Wait>(
 // Lets the streamer stream the batch.
 fn stream_own<Rt: Threads + Wait, G: Gate>(
     rt: &Rt,
-    task: &mut SwapFeeder,
+    task: &mut SwapStreamerTask,
     slots: &[Slot],
     queues: &Queues,
     batch: &[Planned],
     gate: &G,
 )
     requires { MayStream slots.now queues.now batch.now task.old }
-    ensures { HasFed queues.now batch.now task.old task.new }
+    ensures { HasStreamedSwap queues.now batch.now task.old task.new }
 {
     task.refused = stream_swapped(
         rt,
@@ -70,7 +70,7 @@ fn stream_own<Rt: Threads + Wait, G: Gate>(
     );
 }
 
-impl<P: Filter + Sync> Task<SwapShared<P>> for SwapDrawer {
+impl<P: Filter + Sync> Task<SwapShared<P>> for SwapSamplerTask {
     ghost ready = { λ shared job task. MayDraw shared.slots.elements job.scene job.picture task };
 
     ghost did = { λ shared job before after. HasDrawn P.Filter shared.start job.scene job.picture before after };
@@ -87,10 +87,10 @@ impl<P: Filter + Sync> Task<SwapShared<P>> for SwapDrawer {
     }
 }
 
-impl<P: Filter + Sync> Task<SwapShared<P>> for SwapFeeder {
+impl<P: Filter + Sync> Task<SwapShared<P>> for SwapStreamerTask {
     ghost ready = { λ shared job task. MayStream shared.slots.elements shared.queues job.batch task };
 
-    ghost did = { λ shared job before after. HasFed shared.queues job.batch before after };
+    ghost did = { λ shared job before after. HasStreamedSwap shared.queues job.batch before after };
 
     fn work<Rt: Threads + Wait, G: Gate>(
         &mut self,
@@ -111,10 +111,10 @@ fn needs_sync<T: Sync>(_value: &T) {}
 /// The workers of a pass may go to threads of their own, and what they have in common may be lent to these.
 pub fn may_be_sent<P: Filter + Sync>(
     shared: &SwapShared<P>,
-    drawer: &SwapDrawer,
-    feeder: &SwapFeeder,
+    sampler_task: &SwapSamplerTask,
+    streaming: &SwapStreamerTask,
 ) {
     needs_sync(shared);
-    needs_send(drawer);
-    needs_send(feeder);
+    needs_send(sampler_task);
+    needs_send(streaming);
 }

@@ -8,7 +8,7 @@ use vt_swap::{SwapStreamer, TableReader};
 
 /// A sampler with its reader of the page cache. It is without one only while it draws.
 #[derive(Drop)]
-pub struct SwapDrawer {
+pub struct SwapSamplerTask {
     /// The sampler.
     pub sampler: SwapSampler,
     /// Its reader.
@@ -16,7 +16,7 @@ pub struct SwapDrawer {
 }
 
 /// The streamer of the page cache, with the pass by which it takes results, and what it tells of the batch.
-pub struct SwapFeeder {
+pub struct SwapStreamerTask {
     /// The streamer.
     pub streamer: SwapStreamer,
     /// How the texture is cut into pages.

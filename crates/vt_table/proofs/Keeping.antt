@@ -10,13 +10,13 @@ use Rattle.vt_journal.specs.declared.changes.Change.{Change}
 use Rattle.vt_journal.specs.Changes.{Table, newest, changed, nothing_mapped, IsFree, IsLegalNext}
 use Rattle.vt_journal.specs.Kept.{entry_of, entries_of}
 use Rattle.vt_journal.proofs.Versions.{newest-none, newest-more, same_page}
-use Rattle.vt_table.specs.Views.{TableView, IsTile, IsWithin, IsReady, filled_after, tile_of}
-use Rattle.vt_table.specs.Kept.{tile_in, view_of, room_of, IsKept}
+use Rattle.vt_table.specs.Views.{TableView, IsTile, IsTableChange, IsReady, filled_after, tile_of}
+use Rattle.vt_table.specs.Kept.{tile_in, table_view_of, room_of_frame, IsTableKept}
 use Rattle.vt_table.proofs.Rooms.{tiles_at}
 use Rattle.vt_table.proofs.Lawful.{Follows, table_spared, table_filled, table_published, table_none}
 
 -- the depth of a tile, from its length
-pub depth_of_length : (s : Shape) (tile : List ℕ) (room d : ℕ) (h : IsTile s tile) → 1 ≤ s.tile → room ≡ room_of s.tile
+pub depth_of_length : (s : Shape) (tile : List ℕ) (room d : ℕ) (h : IsTile s tile) → 1 ≤ s.tile → room ≡ room_of_frame s.tile
     → (length tile ≡ room → d ≡ 2) → (length tile ≢ room → d ≡ 1) → d ≡ h.depth
 depth_of_length s tile room d h some is wide narrow =
     let texels : 1 ≤ s.tile * s.tile = mul-le 1 1 s.tile s.tile some some in
@@ -31,10 +31,10 @@ depth_of_length s tile room d h some is wide narrow =
 
 -- a table over more spare room
 pub kept_reserved : (s : Shape) (js ks : List Change) (n m room : ℕ) (entries bytes depths owners : List ℕ) → ks ≡ js
-    → IsKept (view_of s js n bytes depths owners) room entries bytes depths → IsKept (view_of s ks m bytes depths owners) room entries bytes depths
+    → IsTableKept (table_view_of s js n bytes depths owners) room entries bytes depths → IsTableKept (table_view_of s ks m bytes depths owners) room entries bytes depths
 kept_reserved s js ks n m room entries bytes depths owners same k =
-    subst (λ (l : List Change). IsKept (view_of s l m bytes depths owners) room entries bytes depths) (sym same) (record {
-      table = table_spared (view_of s js n bytes depths owners) m k.table;
+    subst (λ (l : List Change). IsTableKept (table_view_of s l m bytes depths owners) room entries bytes depths) (sym same) (record {
+      table = table_spared (table_view_of s js n bytes depths owners) m k.table;
       room_is = k.room_is;
       few_bytes = k.few_bytes;
       all_entries = k.all_entries;
@@ -62,8 +62,8 @@ set_high xs i d f inside high was =
 -- a table of which a free frame was filled
 pub kept_filled : (s : Shape) (js : List Change) (n room frame page d : ℕ) (entries bytes depths owners new : List ℕ)
     → frame < length owners → IsFree (newest js) frame
-    → 1 ≤ d → d ≤ 2 → length new ≡ length bytes → IsKept (view_of s js n bytes depths owners) room entries bytes depths
-    → IsKept (view_of s js n new (set depths frame d) (set owners frame (page + 1))) room entries new (set depths frame d)
+    → 1 ≤ d → d ≤ 2 → length new ≡ length bytes → IsTableKept (table_view_of s js n bytes depths owners) room entries bytes depths
+    → IsTableKept (table_view_of s js n new (set depths frame d) (set owners frame (page + 1))) room entries new (set depths frame d)
 kept_filled s js n room frame page d entries bytes depths owners new inside free low high same k = record {
   table = table_filled s js n frame page _ _ owners free k.table;
   room_is = k.room_is;
@@ -82,11 +82,11 @@ kept_filled s js n room frame page d entries bytes depths owners new inside free
 -- a table after a change
 pub kept_published : (s : Shape) (js : List Change) (n m room : ℕ) (change : Change)
     (entries bytes depths owners to_entries to_owners : List ℕ) (ks : List Change)
-    → ks ≡ js ++ change ∷ [] → IsWithin (view_of s js n bytes depths owners) change → IsLegalNext s (newest js) change
-    → IsReady (view_of s js n bytes depths owners) change → length to_entries ≡ length entries → length to_owners ≡ length owners
+    → ks ≡ js ++ change ∷ [] → IsTableChange (table_view_of s js n bytes depths owners) change → IsLegalNext s (newest js) change
+    → IsReady (table_view_of s js n bytes depths owners) change → length to_entries ≡ length entries → length to_owners ≡ length owners
     → entries_of to_entries ≡ changed (entries_of entries) change → entries_of to_owners ≡ filled_after (entries_of owners) change
-    → IsKept (view_of s js n bytes depths owners) room entries bytes depths
-    → IsKept (view_of s ks m bytes depths to_owners) room to_entries bytes depths
+    → IsTableKept (table_view_of s js n bytes depths owners) room entries bytes depths
+    → IsTableKept (table_view_of s ks m bytes depths to_owners) room to_entries bytes depths
 kept_published s js n m room change entries bytes depths owners to_entries to_owners ks
     grown within legal ready all_entries all_owners new_entries new_owners k = record {
       table = table_published v w change follows grown k.table within legal ready;
@@ -101,10 +101,10 @@ kept_published s js n m room change entries bytes depths owners to_entries to_ow
     }
   where
     v : TableView
-    v = view_of s js n bytes depths owners
+    v = table_view_of s js n bytes depths owners
 
     w : TableView
-    w = view_of s ks m bytes depths to_owners
+    w = table_view_of s ks m bytes depths to_owners
 
     next : newest ks ≡ changed (newest js) change
     next = ap newest grown ∙ newest-more js change
@@ -122,11 +122,11 @@ entries_none = entries_zero
 -- a new table
 pub kept_new : (s : Shape) (js : List Change) (n room frames : ℕ) (entries bytes depths owners : List ℕ)
     → IsWithinLimits s → js ≡ [] → 1 ≤ frames → frames ≤ most_frames
-    → room ≡ room_of s.tile → frames * room ≤ 6 * most_frame_texels → length entries ≡ pages_of s → ((k : ℕ) → get_or entries k 0 ≡ 0)
+    → room ≡ room_of_frame s.tile → frames * room ≤ 6 * most_frame_texels → length entries ≡ pages_of s → ((k : ℕ) → get_or entries k 0 ≡ 0)
     → length bytes ≡ frames * room → length depths ≡ frames → ((k : ℕ) → k < frames → get_or depths k 0 ≡ 1) → length owners ≡ frames
-    → IsKept (view_of s js n bytes depths owners) room entries bytes depths
+    → IsTableKept (table_view_of s js n bytes depths owners) room entries bytes depths
 kept_new s js n room frames entries bytes depths owners limits empty some few is small all_entries zeros all_bytes all_depths ones all_owners = record {
-  table = table_none (view_of s js n bytes depths owners) limits empty (omega arith) (omega arith);
+  table = table_none (table_view_of s js n bytes depths owners) limits empty (omega arith) (omega arith);
   room_is = is;
   few_bytes = rw all_owners small;
   all_entries = all_entries;
@@ -139,9 +139,9 @@ kept_new s js n room frames entries bytes depths owners limits empty some few is
 
 -- the bytes of a frame's tile, as they are read from the frames' rooms
 pub tile_read : (s : Shape) (js : List Change) (n room frame d size : ℕ) (entries bytes depths owners : List ℕ)
-    → IsKept (view_of s js n bytes depths owners) room entries bytes depths → frame < length owners
+    → IsTableKept (table_view_of s js n bytes depths owners) room entries bytes depths → frame < length owners
     → d ≡ get_or depths frame 0 → size ≡ texel_length d * (s.tile * s.tile)
-    → slice_range bytes (frame * room) (frame * room + size) ≡ tile_of (view_of s js n bytes depths owners) frame
+    → slice_range bytes (frame * room) (frame * room + size) ≡ tile_of (table_view_of s js n bytes depths owners) frame
 unfolding tile_in
 tile_read s js n room frame d size entries bytes depths owners k inside is full =
     ap (λ z. slice_range bytes (frame * room) (frame * room + z)) full

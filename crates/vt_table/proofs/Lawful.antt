@@ -8,7 +8,7 @@ use Rattle.vt_journal.specs.declared.changes.Change.TheVariants.{Map, Unmap}
 use Rattle.vt_journal.specs.Changes.{Table, newest, changed, IsFree, IsLegalNext, AreLegal}
 use Rattle.vt_journal.specs.Kept.{entry_of}
 use Rattle.vt_journal.proofs.Versions.{newest-none, legal-none, legal-more, in_turn-legal, one_to_one, entry-other, mapped_after_map, mapped_after_unmap}
-use Rattle.vt_table.specs.Views.{TableView, IsTable, IsWithin, IsReady, filled_for, filled_after}
+use Rattle.vt_table.specs.Views.{TableView, IsTable, IsTableChange, IsReady, filled_for, filled_after}
 
 -- what a change that is legal next leaves of a table
 pub record Follows (v w : TableView) (change : Change) : Type 0 where
@@ -17,7 +17,7 @@ pub record Follows (v w : TableView) (change : Change) : Type 0 where
   pub changes : newest w.changes ≡ changed (newest v.changes) change
   pub owners : filled_for w ≡ filled_after (filled_for v) change
 
-pages_after : (v w : TableView) (change : Change) → Follows v w change → IsTable v → IsWithin v change
+pages_after : (v w : TableView) (change : Change) → Follows v w change → IsTable v → IsTableChange v change
     → (p f : ℕ) → newest w.changes p ≡ Some f → p < pages_of v.shape
 pages_after v w (Map page frame) h t within p f e =
     elim (mapped_after_map (newest v.changes) page frame p f (sym (ap (λ (m : Table). m p) h.changes) ∙ e)) [
@@ -27,7 +27,7 @@ pages_after v w (Map page frame) h t within p f e =
 pages_after v w (Unmap page frame) h t within p f e =
     t.pages_inside p f (mapped_after_unmap (newest v.changes) page frame p f (sym (ap (λ (m : Table). m p) h.changes) ∙ e)).1
 
-frames_after : (v w : TableView) (change : Change) → Follows v w change → IsTable v → IsWithin v change
+frames_after : (v w : TableView) (change : Change) → Follows v w change → IsTable v → IsTableChange v change
     → (p f : ℕ) → newest w.changes p ≡ Some f → f < v.frames
 frames_after v w (Map page frame) h t within p f e =
     elim (mapped_after_map (newest v.changes) page frame p f (sym (ap (λ (m : Table). m p) h.changes) ∙ e)) [
@@ -82,7 +82,7 @@ table_filled s js n frame page tiles new_tiles owners free t = let frames = leng
 }
 
 -- one after a change
-pub table_published : (v w : TableView) (change : Change) → Follows v w change → w.changes ≡ v.changes ++ change ∷ [] → IsTable v → IsWithin v change
+pub table_published : (v w : TableView) (change : Change) → Follows v w change → w.changes ≡ v.changes ++ change ∷ [] → IsTable v → IsTableChange v change
     → IsLegalNext v.shape (newest v.changes) change → IsReady v change → IsTable w
 table_published v w change h grown t within legal ready = record {
   limits = subst IsWithinLimits (sym h.shape) t.limits;

@@ -8,7 +8,7 @@ use Rattle.std.proofs.lemmas.Bool.{cases_lt}
 use Rattle.std.proofs.lemmas.Slice.{take-put_mid_below, drop-put_mid}
 use borrow.Rule.Slice.PartMut.{put_mid}
 use Rattle.vt_journal.specs.Depths.{texel_length}
-use Rattle.vt_table.specs.Kept.{room_of, tile_in, tiles_in}
+use Rattle.vt_table.specs.Kept.{room_of_frame, tile_in, tiles_in}
 
 -- what is before a piece that is written
 pub before_mid : (at k : ℕ) (xs ys : List ℕ) (i j : ℕ) → at ≤ length xs → i ≤ j → j ≤ at → slice_range (put_mid at k xs ys) i j ≡ slice_range xs i j
@@ -31,24 +31,24 @@ rooms_apart f g room other =
       | inr above ↦ inr (omega (arith, mul-le (g + 1) room f room (omega arith) (omega arith)))
     ]
 
-pub tile_fits : (d side : ℕ) → d ≤ 2 → texel_length d * (side * side) ≤ room_of side
+pub tile_fits : (d side : ℕ) → d ≤ 2 → texel_length d * (side * side) ≤ room_of_frame side
 tile_fits d side most = mul-le (3 * d) (side * side) 6 (side * side) (omega arith) (omega arith)
 
 -- the tile that was written
 pub tile_written : (side frame d : ℕ) (new tile : List ℕ) → length tile ≡ texel_length d * (side * side)
-    → slice_range new (frame * room_of side) (frame * room_of side + length tile) ≡ tile → tile_in side new d frame ≡ tile
+    → slice_range new (frame * room_of_frame side) (frame * room_of_frame side + length tile) ≡ tile → tile_in side new d frame ≡ tile
 unfolding tile_in
-tile_written side frame d new tile full written = ap (λ n. slice_range new (frame * room_of side) (frame * room_of side + n)) (sym full) ∙ written
+tile_written side frame d new tile full written = ap (λ n. slice_range new (frame * room_of_frame side) (frame * room_of_frame side + n)) (sym full) ∙ written
 
 -- the tile of another frame
-pub tile_kept : (side frame f d n : ℕ) (old new : List ℕ) → f ≢ frame → d ≤ 2 → n ≤ room_of side
-    → ((i j : ℕ) → i ≤ j → j ≤ frame * room_of side → slice_range new i j ≡ slice_range old i j)
-    → ((i j : ℕ) → frame * room_of side + n ≤ i → slice_range new i j ≡ slice_range old i j) → tile_in side new d f ≡ tile_in side old d f
+pub tile_kept : (side frame f d n : ℕ) (old new : List ℕ) → f ≢ frame → d ≤ 2 → n ≤ room_of_frame side
+    → ((i j : ℕ) → i ≤ j → j ≤ frame * room_of_frame side → slice_range new i j ≡ slice_range old i j)
+    → ((i j : ℕ) → frame * room_of_frame side + n ≤ i → slice_range new i j ≡ slice_range old i j) → tile_in side new d f ≡ tile_in side old d f
 unfolding tile_in
 tile_kept side frame f d n old new other most short before behind =
-    elim (rooms_apart f frame (room_of side) other) [
-      | inl low ↦ before (f * room_of side) (f * room_of side + texel_length d * (side * side)) (omega arith) (omega (arith, tile_fits d side most))
-      | inr high ↦ behind (f * room_of side) (f * room_of side + texel_length d * (side * side)) (omega arith)
+    elim (rooms_apart f frame (room_of_frame side) other) [
+      | inl low ↦ before (f * room_of_frame side) (f * room_of_frame side + texel_length d * (side * side)) (omega arith) (omega (arith, tile_fits d side most))
+      | inr high ↦ behind (f * room_of_frame side) (f * room_of_frame side + texel_length d * (side * side)) (omega arith)
     ]
 
 -- a frame's tile among the tiles
@@ -65,9 +65,9 @@ tiles_past side bytes depths frames f past =
 pub record IsWritten (side frame d : ℕ) (old new tile : List ℕ) : Type 0 where
   pub full : length tile ≡ texel_length d * (side * side)
   pub most : d ≤ 2
-  pub written : slice_range new (frame * room_of side) (frame * room_of side + length tile) ≡ tile
-  pub before : (i j : ℕ) → i ≤ j → j ≤ frame * room_of side → slice_range new i j ≡ slice_range old i j
-  pub behind : (i j : ℕ) → frame * room_of side + length tile ≤ i → slice_range new i j ≡ slice_range old i j
+  pub written : slice_range new (frame * room_of_frame side) (frame * room_of_frame side + length tile) ≡ tile
+  pub before : (i j : ℕ) → i ≤ j → j ≤ frame * room_of_frame side → slice_range new i j ≡ slice_range old i j
+  pub behind : (i j : ℕ) → frame * room_of_frame side + length tile ≤ i → slice_range new i j ≡ slice_range old i j
 
 pub tile_there : (side frame d frames : ℕ) (old new tile depths : List ℕ) → IsWritten side frame d old new tile → frame < frames
     → frame < length depths → slice_index_or (tiles_in side new (set depths frame d) frames) frame [] ≡ tile
@@ -91,7 +91,7 @@ tile_elsewhere side frame d frames now f old new tile depths h same other most =
     ]
 
 -- by what a write of a tile says
-pub is_written : (side room frame d : ℕ) (old lent new items tile : List ℕ) → room ≡ room_of side → lent ≡ old → items ≡ new
+pub is_written : (side room frame d : ℕ) (old lent new items tile : List ℕ) → room ≡ room_of_frame side → lent ≡ old → items ≡ new
     → length tile ≡ texel_length d * (side * side) → d ≤ 2
     → slice_range new (frame * room) (frame * room + length tile) ≡ tile
     → ((i j : ℕ) → i ≤ j → j ≤ frame * room → slice_range new i j ≡ slice_range lent i j)
@@ -100,7 +100,7 @@ pub is_written : (side room frame d : ℕ) (old lent new items tile : List ℕ) 
 is_written side room frame d old lent new items tile is was made full most written before behind = record {
   full = full;
   most = most;
-  written = ap (λ (l : List ℕ). slice_range l (frame * room_of side) (frame * room_of side + length tile)) made
+  written = ap (λ (l : List ℕ). slice_range l (frame * room_of_frame side) (frame * room_of_frame side + length tile)) made
       ∙ ap (λ r. slice_range new (frame * r) (frame * r + length tile)) (sym is) ∙ written;
   before = λ i j low high. ap (λ (l : List ℕ). slice_range l i j) made ∙ before i j low (omega (arith, ap (λ r. frame * r) is))
       ∙ ap (λ (l : List ℕ). slice_range l i j) was;

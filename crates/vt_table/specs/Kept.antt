@@ -11,20 +11,20 @@ use Rattle.vt_journal.specs.Kept.{entries_of}
 use Rattle.vt_table.specs.Views.{TableView, IsTable}
 
 -- how many bytes the room of a frame has: two for each sample of a tile of this side
-abbrev pub room_of : ℕ → ℕ
-room_of side = 6 * (side * side)
+abbrev pub room_of_frame : ℕ → ℕ
+room_of_frame side = 6 * (side * side)
 
 -- the bytes of a frame's tile, whose samples have so many bytes: the first of its room
 unfoldable pub tile_in : ℕ → List ℕ → ℕ → ℕ → List ℕ
-tile_in side bytes depth frame = slice_range bytes (frame * room_of side) (frame * room_of side + texel_length depth * (side * side))
+tile_in side bytes depth frame = slice_range bytes (frame * room_of_frame side) (frame * room_of_frame side + texel_length depth * (side * side))
 
 -- the tiles of so many frames
 abbrev pub tiles_in : ℕ → List ℕ → List ℕ → ℕ → List (List ℕ)
 tiles_in side bytes depths frames = map (λ f. tile_in side bytes (slice_index depths f) f) (range_with_len 0 frames)
 
 -- what is seen of what is kept
-abbrev pub view_of : Shape → List Change → ℕ → List ℕ → List ℕ → List ℕ → TableView
-view_of s changes spare bytes depths owners = record {
+abbrev pub table_view_of : Shape → List Change → ℕ → List ℕ → List ℕ → List ℕ → TableView
+table_view_of s changes spare bytes depths owners = record {
   shape = s;
   frames = length owners;
   changes = changes;
@@ -34,9 +34,9 @@ view_of s changes spare bytes depths owners = record {
 }
 
 -- what is kept is the table's: a number for each page, a room for each frame, and the depth of each frame's tile
-pub record IsKept (v : TableView) (room : ℕ) (entries bytes depths : List ℕ) : Type 0 where
+pub record IsTableKept (v : TableView) (room : ℕ) (entries bytes depths : List ℕ) : Type 0 where
   pub table : IsTable v
-  pub room_is : room ≡ room_of v.shape.tile
+  pub room_is : room ≡ room_of_frame v.shape.tile
   pub few_bytes : v.frames * room ≤ 6 * most_frame_texels
   pub all_entries : length entries ≡ pages_of v.shape
   pub agrees : entries_of entries ≡ newest v.changes

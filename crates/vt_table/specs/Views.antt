@@ -39,13 +39,13 @@ IsReady v (Map page frame) = filled_for v frame ≡ Some page
 IsReady v (Unmap page frame) = Unit {0}
 
 -- the page and the frame of a change are the table's
-pub record IsWithin (v : TableView) (change : Change) : Type 0 where
+pub record IsTableChange (v : TableView) (change : Change) : Type 0 where
   pub page_inside : change_page change < pages_of v.shape
   pub frame_inside : change_frame change < v.frames
 
 -- a page is mapped to the frame
-abbrev pub IsMapped : Table → ℕ → Type 0
-IsMapped m frame = (page : ℕ) × (m page ≡ Some frame)
+abbrev pub IsMappedTo : Table → ℕ → Type 0
+IsMappedTo m frame = (page : ℕ) × (m page ≡ Some frame)
 
 -- the bytes of a tile: those of its texels at some depth, row by row
 pub record IsTile (s : Shape) (tile : List ℕ) : Type 0 where

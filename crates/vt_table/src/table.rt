@@ -5,7 +5,7 @@ ghost use Rattle.vt_journal.specs.Limits.{most_frames, most_frame_texels, most_v
 ghost use Rattle.vt_journal.specs.Depths.{IsDepth, texel_length};
 ghost use Rattle.vt_journal.specs.Pages.{pages_of};
 ghost use Rattle.vt_journal.specs.Changes.{newest, nothing_mapped, IsFree, IsLegalNext};
-ghost use Rattle.vt_table.specs.Views.{TableView, tile_of, filled_for, filled_after, IsReady, IsWithin, IsMapped, IsTile, word_in, IsTable};
+ghost use Rattle.vt_table.specs.Views.{TableView, tile_of, filled_for, filled_after, IsReady, IsTableChange, IsMappedTo, IsTile, word_in, IsTable};
 
 use crate::steps::{depth_in, free_owner, put_entry, put_tile};
 use std::alloc::Global;
@@ -33,14 +33,14 @@ pub struct StillTable {
 
 impl Model for StillTable {
     ghost use Rattle.vt_table.specs.Views.{TableView};
-    ghost use Rattle.vt_table.specs.Kept.{view_of, IsKept};
+    ghost use Rattle.vt_table.specs.Kept.{table_view_of, IsTableKept};
 
     ghost Value = { TableView };
 
-    ghost view = { λ t. view_of t.geometry t.journal.changes t.journal.spare t.bytes.items t.depths.items t.owners.items };
+    ghost view = { λ t. table_view_of t.geometry t.journal.changes t.journal.spare t.bytes.items t.depths.items t.owners.items };
 
-    ghost invariant = { λ t. IsKept
-        (view_of t.geometry t.journal.changes t.journal.spare t.bytes.items t.depths.items t.owners.items)
+    ghost invariant = { λ t. IsTableKept
+        (table_view_of t.geometry t.journal.changes t.journal.spare t.bytes.items t.depths.items t.owners.items)
         t.room t.entries.items t.bytes.items t.depths.items };
 }
 
@@ -112,7 +112,7 @@ impl StillTable {
     /// since it was last unmapped. It takes no memory and refuses nothing.
     pub fn publish(&mut self, change: Change) -> u64
         requires room { 1 ≤ self.old.spare }
-        requires within { IsWithin self.old change }
+        requires within { IsTableChange self.old change }
         requires legal { IsLegalNext self.old.shape (newest self.old.changes) change }
         requires ready { IsReady self.old change }
         ensures version { result ≡ length self.new.changes }
@@ -159,7 +159,7 @@ impl StillTable {
     /// has, 1 or 2. Texels go row by row.
     #[inline]
     pub fn tile(&self, frame: u32) -> (&[u8], u32)
-        requires mapped { IsMapped (newest self.now.changes) frame }
+        requires mapped { IsMappedTo (newest self.now.changes) frame }
         ensures tile { result.0.now ≡ tile_of self.now frame }
         ensures depth { IsDepth result.1 }
         ensures full { length result.0.now ≡ texel_length result.1 * (self.now.shape.tile * self.now.shape.tile) }
@@ -178,7 +178,7 @@ impl StillTable {
     /// row by row.
     #[inline]
     pub fn word(&self, frame: u32, place: u32) -> u64
-        requires mapped { IsMapped (newest self.now.changes) frame }
+        requires mapped { IsMappedTo (newest self.now.changes) frame }
         requires inside { place < self.now.shape.tile * self.now.shape.tile }
         ensures word { result ≡ word_in self.now frame place }
     {

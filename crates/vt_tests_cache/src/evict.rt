@@ -3,7 +3,7 @@
 ghost use Rattle.std.specs.Bool.{OnTrue};
 ghost use Rattle.std.specs.Prelude.{◌≡◌, ◌<◌, ◌≤◌, IfOk};
 ghost use Rattle.std.specs.List.{All};
-ghost use Rattle.vt_evict.specs.Batches.{IsLawful};
+ghost use Rattle.vt_evict.specs.Batches.{IsLawfulBatch};
 ghost use Rattle.vt_pages.specs.Pages.{pages_of};
 
 use crate::checks::holds;
@@ -50,7 +50,7 @@ struct Pass {
 
 // Settles a plan of which entries are lost, and answers whether there are so many, and memory.
 fn is_settled(alloc: Global, recency: &mut Recency, batch: &Batch, lost: &[bool]) -> bool
-    requires { IsLawful recency.old batch.now.elements }
+    requires { IsLawfulBatch recency.old batch.now.elements }
     ensures { OnTrue result (recency.new.shape ≡ recency.old.shape) }
 {
     let Ok(losses) = Losses::from_slice(alloc, lost) else {

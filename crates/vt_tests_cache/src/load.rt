@@ -1,6 +1,6 @@
 //! Loaders over stores in memory.
 
-ghost use Rattle.vt_queue.specs.Queues.{IsOf};
+ghost use Rattle.vt_queue.specs.Queues.{IsPassOfQueue};
 
 use crate::checks::holds;
 use std::alloc::Global;
@@ -50,9 +50,9 @@ fn run_one<Rt: Threads + Wait>(
     results: &ResultQueue,
     answers: &mut QueuePass<Loaded>,
 )
-    requires asks { IsOf requests.now asks.old }
-    requires answers { IsOf results.now answers.old }
-    ensures answers { IsOf results.now answers.new }
+    requires asks { IsPassOfQueue requests.now asks.old }
+    requires answers { IsPassOfQueue results.now answers.old }
+    ensures answers { IsPassOfQueue results.now answers.new }
 {
     if let Some(store) = store_of(folder) {
         let mut loader = Loader::new(store, 0);
@@ -73,8 +73,8 @@ fn ask<Rt: Threads + Wait>(
     page: u32,
     buffer: &[u8],
 ) -> bool
-    requires { IsOf requests.now asks.old }
-    ensures { IsOf requests.now asks.new }
+    requires { IsPassOfQueue requests.now asks.old }
+    ensures { IsPassOfQueue requests.now asks.new }
 {
     let Ok(buffer) = Bytes::from_slice(alloc, buffer) else {
         return false;
@@ -128,7 +128,7 @@ fn are_answers<Rt: Threads + Wait>(
     pass: &mut QueuePass<Loaded>,
     answers: &[Option<Answer>; 3],
 ) -> bool
-    requires { IsOf results.now pass.old }
+    requires { IsPassOfQueue results.now pass.old }
 {
     is_answer(results.take(rt, pass), &answers[0])
         && is_answer(results.take(rt, pass), &answers[1])

@@ -1,7 +1,7 @@
 //! Queues of two places, alone and between two threads.
 
 ghost use Rattle.std.specs.Thread.{IsSync};
-ghost use Rattle.vt_queue.specs.Queues.{IsOf};
+ghost use Rattle.vt_queue.specs.Queues.{IsPassOfQueue};
 
 use crate::checks::holds;
 use std::alloc::Global;
@@ -52,8 +52,8 @@ fn refused<Rt: Threads + Wait + Sync, I: Ticketed + Drop>(
     pass: &mut QueuePass<I>,
     ticket: u32,
 ) -> Option<u32>
-    requires { IsOf queue.now pass.old }
-    ensures { IsOf queue.now pass.new }
+    requires { IsPassOfQueue queue.now pass.old }
+    ensures { IsPassOfQueue queue.now pass.new }
 {
     match queue.put(rt, pass, I::new(alloc, ticket)) {
         Ok(()) => None,
@@ -67,8 +67,8 @@ fn taken<Rt: Threads + Wait + Sync, I: Ticketed + Drop>(
     queue: &Queue<I>,
     pass: &mut QueuePass<I>,
 ) -> Option<u32>
-    requires { IsOf queue.now pass.old }
-    ensures { IsOf queue.now pass.new }
+    requires { IsPassOfQueue queue.now pass.old }
+    ensures { IsPassOfQueue queue.now pass.new }
 {
     Some(queue.take(rt, pass)?.ticket())
 }
@@ -93,7 +93,7 @@ fn taken_three<Rt: Threads + Wait + Sync, I: Ticketed + Drop>(
     queue: &Queue<I>,
     pass: &mut QueuePass<I>,
 ) -> [Option<u32>; 3]
-    requires { IsOf queue.now pass.old }
+    requires { IsPassOfQueue queue.now pass.old }
 {
     [
         taken(rt, queue, pass),
@@ -120,20 +120,20 @@ fn put_beside<Rt: Threads + Wait + Sync>(
     mine: &mut QueuePass<Request>,
     theirs: &mut QueuePass<Request>,
 )
-    requires { IsOf queue.now mine.old × IsOf queue.now theirs.old }
-    ensures { IsOf queue.now mine.new × IsOf queue.now theirs.new }
+    requires { IsPassOfQueue queue.now mine.old × IsPassOfQueue queue.now theirs.old }
+    ensures { IsPassOfQueue queue.now mine.new × IsPassOfQueue queue.now theirs.new }
 {
     join_mut(
         rt,
         &mut || -> ()
-            requires { IsSync Rt.row × IsOf queue.now mine.now }
-            ensures { IsOf queue.entry.now mine.exit.now }
+            requires { IsSync Rt.row × IsPassOfQueue queue.now mine.now }
+            ensures { IsPassOfQueue queue.entry.now mine.exit.now }
         {
             let _ = refused(rt, alloc, queue, mine, 3);
         },
         &mut || -> ()
-            requires { IsSync Rt.row × IsOf queue.now theirs.now }
-            ensures { IsOf queue.entry.now theirs.exit.now }
+            requires { IsSync Rt.row × IsPassOfQueue queue.now theirs.now }
+            ensures { IsPassOfQueue queue.entry.now theirs.exit.now }
         {
             let _ = refused(rt, alloc, queue, theirs, 4);
         },

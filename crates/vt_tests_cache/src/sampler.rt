@@ -5,7 +5,7 @@ mod tables;
 ghost use Rattle.std.specs.Prelude.{◌≡◌, ◌<◌, ◌≤◌, length};
 ghost use Rattle.vt_pages.specs.Limits.{most_samplers};
 ghost use Rattle.vt_tiles.specs.Depths.{IsDepth};
-ghost use Rattle.vt_sampler.specs.Notes.{MapsRoot};
+ghost use Rattle.vt_sampler.specs.Notes.{TableMapsRoot};
 
 use crate::checks::holds;
 use crate::sampler::tables::table_from;
@@ -43,7 +43,7 @@ fn draw_share(
     requires depth { IsDepth shot.now.depth }
     requires picture { shot.now.picture < length shot.now.path.now.cameras }
     requires shape { table.now.shape ≡ shot.now.geometry.now }
-    requires root { MapsRoot table.now }
+    requires root { TableMapsRoot table.now }
 {
     let Ok(mut own) = Sampler::new(
         alloc,

@@ -3,7 +3,7 @@
 use crate::fixtures::sink_failing_at;
 use std::alloc::Global;
 use vt_outside::{Fails, MemorySink};
-use vt_text::{Line, Place, put_pieces, tell_bad_input, tell_pieces, tell_place};
+use vt_text::{Line, Place, print_bad_input, print_pieces, print_place, put_pieces};
 
 // Adds words and a number to a line, where there is room for them.
 fn gains(line: &mut Line, words: &[u8], number: u64) -> bool {
@@ -44,25 +44,25 @@ fn puts(sink: &mut MemorySink, pieces: &[&[u8]]) -> bool {
     put_pieces(sink, pieces).is_ok()
 }
 
-fn tells_bad_input(sink: &mut MemorySink, name: &str, place: &Place<'_>) {
-    tell_bad_input(sink, name, place);
+fn prints_bad_input(sink: &mut MemorySink, name: &str, place: &Place<'_>) {
+    print_bad_input(sink, name, place);
 }
 
-fn tells_place(sink: &mut MemorySink, place: &Place<'_>) {
-    tell_place(sink, place);
+fn prints_place(sink: &mut MemorySink, place: &Place<'_>) {
+    print_place(sink, place);
 }
 
-fn tells(sink: &mut MemorySink, line: &[u8]) {
-    tell_pieces(sink, &[line]);
+fn prints(sink: &mut MemorySink, line: &[u8]) {
+    print_pieces(sink, &[line]);
 }
 
 // Whether three bad inputs are told by their names and places.
-fn are_told(alloc: Global) -> bool {
+fn are_known_to(alloc: Global) -> bool {
     let mut sink = MemorySink::new(alloc, Fails::new(alloc));
-    tells_bad_input(&mut sink, "a.ppm", &Place::words(b"bad size"));
-    tells_bad_input(&mut sink, "", &Place::number(b"bad line ", 7));
+    prints_bad_input(&mut sink, "a.ppm", &Place::words(b"bad size"));
+    prints_bad_input(&mut sink, "", &Place::number(b"bad line ", 7));
     let lengths = Place::two_numbers(b"length ", 16, b", wanted ", 700);
-    tells_bad_input(&mut sink, "s: 1", &lengths);
+    prints_bad_input(&mut sink, "s: 1", &lengths);
     let expected =
         b"vtex: bad input: a.ppm: bad size\nvtex: bad input: : bad line 7\nvtex: bad input: s: 1: length 16, wanted 700\n";
     sink.bytes() == expected.as_slice()
@@ -70,17 +70,17 @@ fn are_told(alloc: Global) -> bool {
 
 #[test]
 fn a_bad_input_is_told_by_its_name_and_place(rt: HostRuntime) {
-    assert!(rt; are_told(rt.alloc()));
+    assert!(rt; are_known_to(rt.alloc()));
 }
 
 // Whether two places and a line are told without a name.
 fn are_told_without_a_name(alloc: Global) -> bool {
     let mut sink = MemorySink::new(alloc, Fails::new(alloc));
     let frames = Place::two_numbers(b"", 3, b" frames, pinned pages need ", 5);
-    tells_place(&mut sink, &frames);
+    prints_place(&mut sink, &frames);
     let wants = Place::three_numbers(b"picture ", 0, b" wants ", 41, b" pages, room for ", 40);
-    tells_place(&mut sink, &wants);
-    tells(&mut sink, b"vtex: out of memory\n");
+    prints_place(&mut sink, &wants);
+    prints(&mut sink, b"vtex: out of memory\n");
     let expected =
         b"vtex: 3 frames, pinned pages need 5\nvtex: picture 0 wants 41 pages, room for 40\nvtex: out of memory\n";
     sink.bytes() == expected.as_slice()
@@ -96,7 +96,7 @@ fn ends_at_a_refused_put(alloc: Global) -> bool {
     let Ok(mut sink) = sink_failing_at(alloc, 1) else {
         return false;
     };
-    tells_bad_input(&mut sink, "abcd", &Place::words(b"bad size"));
+    prints_bad_input(&mut sink, "abcd", &Place::words(b"bad size"));
     sink.bytes() == b"vtex: bad input: ab".as_slice()
 }
 

@@ -1,6 +1,6 @@
 //! A bag of rows.
 
-ghost use Rattle.vt_shared_rows.specs.Bags.{IsOf};
+ghost use Rattle.vt_shared_rows.specs.Bags.{IsPassOfBag};
 
 use std::alloc::Global;
 use std::sync::Wait;
@@ -19,8 +19,8 @@ fn row(alloc: Global, number: u32) -> RowJob {
 
 // The number of the row that is taken.
 fn taken<Rt: Wait>(rt: &Rt, bag: &RowBag, pass: &mut BagPass) -> Option<u32>
-    requires { IsOf bag.now pass.old }
-    ensures { IsOf bag.now pass.new }
+    requires { IsPassOfBag bag.now pass.old }
+    ensures { IsPassOfBag bag.now pass.new }
 {
     match bag.take(rt, pass) {
         Some(job) => Some(job.row),

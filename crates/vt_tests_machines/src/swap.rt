@@ -137,7 +137,7 @@ fn is_drawn_after_each<R: Wait>(
     }
     let (reader, second) = draw(rt, reader, slots, geometry, path);
     let (reader, version, entry) = reader.entry(rt, 2);
-    reader.is_told_by(streamer)
+    reader.is_known_to(streamer)
         && root == (1, [11, 11, 11, 3, 3, 3])
         && first == (2, [13, 13, 13, 3, 3, 3])
         && second == (4, [11, 11, 11, 1, 1, 1])

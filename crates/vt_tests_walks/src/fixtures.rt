@@ -69,7 +69,7 @@ const NAMES: [&str; 5] = [
 /// Opens the store of a name.
 pub fn open_store<D: Folder>(rt: &impl Abort, folder: &mut D, name: &str) -> Store<D::File>
     ensures bytes { D.File.bytes result.file ≡ bytes_at (D.files folder.old) name.now }
-    ensures tells { is_some (D.File.bytes result.file) ≡ is_some (D.files folder.old) }
+    ensures known_too { is_some (D.File.bytes result.file) ≡ is_some (D.files folder.old) }
     ensures files { D.files folder.new ≡ D.files folder.old }
     ensures opened { AreOpen 1 name.now (D.asked folder.new) (file_state D.File.File result.file ∷ []) }
 {

@@ -5,12 +5,12 @@ use Rattle.vt_camera.specs.Paths.{PathView}
 use Rattle.vt_evict.specs.PlanTypes.batches.Planned.{Planned}
 use Rattle.vt_grace.specs.Values.{WordsValue, PassValue}
 use Rattle.vt_grace.specs.Tokens.{IsPassOf}
-use Rattle.vt_sampler.specs.LookupNotes.{Fits}
+use Rattle.vt_sampler.specs.LookupNotes.{FitsShape}
 use Rattle.vt_sampler.specs.Samplers.{SamplerView, IsFor}
 use Rattle.vt_streamer.specs.Views.{StreamerView, IsStreamerOf}
 
 -- it is the streamer of these words, with so many frames
-pub record IsSmall (words : WordsValue) (n : ℕ) (v : StreamerView) : Type 0 where
+pub record IsSmallStreamer (words : WordsValue) (n : ℕ) (v : StreamerView) : Type 0 where
   pub of : IsStreamerOf words v
   pub pages : words.sizes.pages ≡ 5
   pub texels : words.sizes.texels ≡ 4
@@ -21,8 +21,8 @@ abbrev pub AreOther : Planned → Planned → Type 0
 AreOther a b = (a.page ≢ b.page) × (a.frame ≢ b.frame)
 
 -- a sampler of its own may draw the pictures of a path over these words with a pass
-pub record MayDraw (words : WordsValue) (s : Shape) (path : PathView) (v : SamplerView) (p : PassValue) : Type 0 where
-  pub fits : Fits s words.sizes
+pub record MayDrawSmall (words : WordsValue) (s : Shape) (path : PathView) (v : SamplerView) (p : PassValue) : Type 0 where
+  pub fits : FitsShape s words.sizes
   pub for_it : IsFor v s path 1
   pub sampler : v.sampler ≡ 0
   pub samplers : v.samplers ≡ 1

@@ -4,7 +4,7 @@ ghost use Rattle.std.specs.Prelude.{◌≡◌, ◌<◌, length, true, false, IfS
 ghost use Rattle.vt_grace.specs.Tokens.{IsPassOf};
 ghost use Rattle.vt_grace.specs.WriterViews.{is_out};
 ghost use Rattle.vt_sampler.specs.Samplers.{IsOwn};
-ghost use Rattle.vt_tests_words.specs.SmallStreams.{IsSmall, MayDraw};
+ghost use Rattle.vt_tests_words.specs.SmallStreams.{IsSmallStreamer, MayDrawSmall};
 
 use crate::streamer::patient::{comes_in, goes_out};
 use crate::streamer::small::{is_mapped_to, small_streamer};
@@ -48,8 +48,8 @@ struct Drawn {
 
 // Maps the pages 0 to 3 in turn, each to the one of the frames 1 and 2 that was not used last, and unmaps the one before.
 fn stream(words: &Words, mut streamer: Streamer) -> (Streamer, bool)
-    requires { IsSmall words.now 3 streamer }
-    ensures { IsSmall words.now 3 result.0 }
+    requires { IsSmallStreamer words.now 3 streamer }
+    ensures { IsSmallStreamer words.now 3 result.0 }
 {
     let mut is_done = true;
     for round in 0..CHANGES {
@@ -87,10 +87,10 @@ fn drawn_row(sampler: &Sampler, picture: u32) -> Drawn
 
 // Draws a picture under a hold.
 fn draw_one(words: &Words, shot: &Shot, sampler: &mut Sampler, pass: Pass) -> (Pass, Drawn)
-    requires may { MayDraw words.now shot.now.geometry.now shot.now.path.now sampler.old pass }
+    requires may { MayDrawSmall words.now shot.now.geometry.now shot.now.path.now sampler.old pass }
     requires picture { shot.now.picture < length shot.now.path.now.cameras }
     requires depth { shot.now.depth ≡ 1 }
-    ensures { MayDraw words.now shot.now.geometry.now shot.now.path.now sampler.new result.0 }
+    ensures { MayDrawSmall words.now shot.now.geometry.now shot.now.path.now sampler.new result.0 }
 {
     let _some = shot.path.height();
     let pass = sampler.draw(shot, words, pass, &OpenGate);
@@ -106,7 +106,7 @@ fn sample(
     mut pass: Pass,
     mut rows: Vec<Drawn>,
 ) -> (Pass, Vec<Drawn>)
-    requires may { MayDraw words.now geometry.now path.now sampler pass }
+    requires may { MayDrawSmall words.now geometry.now path.now sampler pass }
     requires pictures { length path.now.cameras ≡ 4 }
     ensures { IsPassOf words.now result.0 }
 {
@@ -179,19 +179,19 @@ fn run_both<R: Threads + Sync>(
     pass: Pass,
     rows: Vec<Drawn>,
 ) -> (Streamer, bool, Pass, Vec<Drawn>)
-    requires small { IsSmall words.now 3 streamer }
-    requires may { MayDraw words.now geometry.now path.now sampler pass }
+    requires small { IsSmallStreamer words.now 3 streamer }
+    requires may { MayDrawSmall words.now geometry.now path.now sampler pass }
     requires pictures { length path.now.cameras ≡ 4 }
-    ensures small { IsSmall words.now 3 result.0 }
+    ensures small { IsSmallStreamer words.now 3 result.0 }
     ensures of { IsPassOf words.now result.2 }
 {
     let samples = move || -> (Pass, Vec<Drawn>)
-        requires { MayDraw words.now geometry.now path.now sampler pass × (length path.now.cameras ≡ 4) }
+        requires { MayDrawSmall words.now geometry.now path.now sampler pass × (length path.now.cameras ≡ 4) }
         ensures { IsPassOf words.entry.now result.0 }
     { sample(words, geometry, path, sampler, pass, rows) };
     let streams = move || -> (Streamer, bool)
-        requires { IsSmall words.now 3 streamer }
-        ensures { IsSmall words.entry.now 3 result.0 }
+        requires { IsSmallStreamer words.now 3 streamer }
+        ensures { IsSmallStreamer words.entry.now 3 result.0 }
     { stream(words, streamer) };
     let ((pass, rows), (streamer, is_done)) = join(rt, samples, streams);
     (streamer, is_done, pass, rows)
@@ -199,10 +199,10 @@ fn run_both<R: Threads + Sync>(
 
 // The pass of sampler 0, if the root is mapped to frame 0.
 fn rooted_pass(words: &Words, streamer: &mut Streamer) -> Option<Pass>
-    requires small { IsSmall words.now 3 streamer.old }
+    requires small { IsSmallStreamer words.now 3 streamer.old }
     requires samplers { words.now.sizes.samplers ≡ 1 }
     requires none_out { is_out streamer.old.writer 0 ≡ false }
-    ensures small { IsSmall words.now 3 streamer.new }
+    ensures small { IsSmallStreamer words.now 3 streamer.new }
     ensures of { IfSome result (λ pass. IsPassOf words.now pass) }
     ensures rooted { IfSome result (λ pass. pass.view.rooted ≡ true) }
     ensures own { IfSome result (λ pass. pass.view.sampler ≡ 0) }
@@ -222,7 +222,7 @@ fn is_true_beside<R: Threads + Sync>(
     geometry: &Geometry,
     path: &Path,
 ) -> bool
-    requires small { IsSmall words.now 3 streamer }
+    requires small { IsSmallStreamer words.now 3 streamer }
     requires samplers { words.now.sizes.samplers ≡ 1 }
     requires none_out { is_out streamer.writer 0 ≡ false }
     requires shape { streamer.shape ≡ geometry.now }

@@ -13,7 +13,7 @@ use Rattle.vt_blend.specs.declared.corners.Weights.{Weights}
 use Rattle.vt_blend.specs.Blends.{blended_word}
 use Rattle.vt_blend.specs.Corners.{corners_at, weights_of}
 use Rattle.vt_blend.proofs.Inside.{texel_inside}
-use Rattle.vt_plain_bilinear.specs.Served.{AreServed}
+use Rattle.vt_plain_bilinear.specs.Served.{AreCornersServed}
 use Rattle.vt_plain_bilinear.proofs.Kept.{all_served_kept}
 use Rattle.vt_texel_runs.specs.declared.spans.Span.{Span}
 use Rattle.vt_texel_runs.specs.Blends.{spot_at, span_corners, IsBlendAt, AreBlendsAlong}
@@ -62,11 +62,11 @@ page_along s r i page at of is = of ∙ ap (λ (q : Corners). texel_page s r.lev
 
 -- the bytes of the blend of words that serve some corners, by the names of what was computed
 pub blend_here : (s : Shape) (d version : ℕ) (says : Note → Type 0) (k word : ℕ) (at same : Corners) (w : Weights) (t : Texels) (bytes : List ℕ)
-    → at ≡ same → AreServed s version says k at t → w ≡ weights_of at → word ≡ blended_word d w t → bytes ≡ word_bytes d word
+    → at ≡ same → AreCornersServed s version says k at t → w ≡ weights_of at → word ≡ blended_word d w t → bytes ≡ word_bytes d word
     → IsBlendAt s d version says k same bytes
 blend_here s d version says k word at same w t bytes is served weighs blend shown = record {
   texels = t;
-  served = subst (λ (c : Corners). AreServed s version says k c t) is served;
+  served = subst (λ (c : Corners). AreCornersServed s version says k c t) is served;
   shown =
       shown ∙ ap (word_bytes d) blend ∙ ap (λ (v : Weights). word_bytes d (blended_word d v t)) weighs
       ∙ ap (λ (c : Corners). word_bytes d (blended_word d (weights_of c) t)) is;

@@ -7,7 +7,7 @@ use Rattle.vt_pages.specs.Shape.{Shape}
 use Rattle.vt_draw.specs.Lookups.{Note, covering_page}
 use Rattle.vt_texel_runs.specs.declared.spans.Span.{Span}
 use Rattle.vt_texel_runs.specs.Points.{IsAnswered}
-use Rattle.vt_texel_runs.specs.Spans.{span_point, AreSpanned, AreWanted}
+use Rattle.vt_texel_runs.specs.Spans.{span_point, AreSpanned, AreWantedBySpan}
 use Rattle.vt_texel_runs.proofs.Answering.{answered_kept}
 
 pub spanned_more : (s : Shape) (d version : ℕ) (says later : Note → Type 0) (r : Span) (x : ℕ) (before after : List ℕ)
@@ -23,7 +23,7 @@ spanned_more s d version says later r x before after said kept here so_far i bel
 
 pub wanted_more : (s : Shape) (r : Span) (x page : ℕ) (pages : List ℕ) → x < length pages
     → page ≡ covering_page s (span_point r x).level (span_point r x).x (span_point r x).y
-    → AreWanted s r x pages → AreWanted s r (x + 1) (set pages x page)
+    → AreWantedBySpan s r x pages → AreWantedBySpan s r (x + 1) (set pages x page)
 wanted_more s r x page pages room is so_far i below =
     let want : ℕ → ℕ = λ j. covering_page s (span_point r j).level (span_point r j).x (span_point r j).y in
     let or : (i < x) ⊎ (i ≡ x) = grind arith in

@@ -8,7 +8,7 @@ use Rattle.vt_definitions.specs.Sides.{side}
 use Rattle.vt_pages.specs.Shape.{Shape}
 use Rattle.vt_pages.specs.Pages.{levels_of, texel_page}
 use Rattle.vt_pages.specs.Laws.{IsInside}
-use Rattle.vt_draw.specs.Lookups.{Note, WordNote, IsFinest, place_in_tile}
+use Rattle.vt_draw.specs.Lookups.{Note, WordNote, IsFinestFound, place_in_tile}
 use Rattle.vt_blend.specs.declared.blends.Texels.{Texels}
 use Rattle.vt_blend.specs.declared.corners.Corners.{Corners}
 use Rattle.vt_blend.specs.Blends.{blended_word}
@@ -57,7 +57,7 @@ served_is_answered s d version says k x y word some inside h =
     record {
       found = found;
       word = word;
-      finest = subst (λ (p : ℕ). IsFinest s version says p found) page h.finest;
+      finest = subst (λ (p : ℕ). IsFinestFound s version says p found) page h.finest;
       read = subst (λ (n : ℕ). says (WordNote version found.slot n word)) place h.read;
       shown = refl;
     }

@@ -8,7 +8,7 @@ use Rattle.vt_blend.specs.declared.blends.Texels.{Texels}
 use Rattle.vt_blend.specs.declared.corners.Corners.{Corners}
 use Rattle.vt_blend.specs.Blends.{blended_word}
 use Rattle.vt_blend.specs.Corners.{corners_at, weights_of}
-use Rattle.vt_plain_bilinear.specs.Served.{AreServed}
+use Rattle.vt_plain_bilinear.specs.Served.{AreCornersServed}
 use Rattle.vt_texel_runs.specs.declared.spans.Span.{Span}
 
 -- a place of level 0 in 1/256 texel, of a start and so many steps in parts of 65536, which go round at 2^32
@@ -24,7 +24,7 @@ span_corners s r i =
 -- (van Waveren 2012)
 pub record IsBlendAt (s : Shape) (d version : ℕ) (says : Note → Type 0) (k : ℕ) (at : Corners) (bytes : List ℕ) : Type 0 where
   pub texels : Texels
-  pub served : AreServed s version says k at texels
+  pub served : AreCornersServed s version says k at texels
   pub shown : bytes ≡ word_bytes d (blended_word d (weights_of at) texels)
 
 -- each of the first n texels of a run is so

@@ -4,7 +4,7 @@ use Rattle.vt_definitions.specs.Depths.{texel_bytes, word_bytes}
 use Rattle.vt_pages.specs.Shape.{Shape}
 use Rattle.vt_pages.specs.Pages.{levels_of}
 use Rattle.vt_draw.specs.declared.lookups.Found.{Found}
-use Rattle.vt_draw.specs.Lookups.{Note, WordNote, IsFinest, covering_page, covering_place}
+use Rattle.vt_draw.specs.Lookups.{Note, WordNote, IsFinestFound, covering_page, covering_place}
 use Rattle.vt_texel_runs.specs.declared.points.Point.{Point}
 
 -- a level of a shape, and a place of level 0
@@ -17,7 +17,7 @@ pub record IsPoint (s : Shape) (p : Point) : Type 0 where
 pub record IsAnswered (s : Shape) (d version : ℕ) (says : Note → Type 0) (p : Point) (bytes : List ℕ) : Type 0 where
   pub found : Found
   pub word : ℕ
-  pub finest : IsFinest s version says (covering_page s p.level p.x p.y) found
+  pub finest : IsFinestFound s version says (covering_page s p.level p.x p.y) found
   pub read : says (WordNote version found.slot (covering_place s found.level p.x p.y) word)
   pub shown : bytes ≡ word_bytes d word
 

@@ -16,13 +16,13 @@ abbrev pub span_point : Span → ℕ → Point
 span_point r i = record { level = r.level; x = stepped r.x r.step_x i; y = stepped r.y r.step_y i }
 
 -- each point of a run is the texture's
-abbrev pub IsRun : Shape → Span → Type 0
-IsRun s r = (i : ℕ) → i < r.count → IsPoint s (span_point r i)
+abbrev pub IsSpanInside : Shape → Span → Type 0
+IsSpanInside s r = (i : ℕ) → i < r.count → IsPoint s (span_point r i)
 
 -- each of the first n texels of a run is answered
 abbrev pub AreSpanned : Shape → ℕ → ℕ → (Note → Type 0) → Span → ℕ → List ℕ → Type 0
 AreSpanned s d version says r n bytes = (i : ℕ) → i < n → IsAnswered s d version says (span_point r i) (texel_bytes d bytes i)
 
 -- the pages that the first n texels of a run want
-abbrev pub AreWanted : Shape → Span → ℕ → List ℕ → Type 0
-AreWanted s r n pages = (i : ℕ) → i < n → slice_index pages i ≡ covering_page s (span_point r i).level (span_point r i).x (span_point r i).y
+abbrev pub AreWantedBySpan : Shape → Span → ℕ → List ℕ → Type 0
+AreWantedBySpan s r n pages = (i : ℕ) → i < n → slice_index pages i ≡ covering_page s (span_point r i).level (span_point r i).x (span_point r i).y

@@ -6,9 +6,9 @@ ghost use Rattle.vt_definitions.specs.Limits.{most_levels};
 ghost use Rattle.vt_pages.specs.Pages.{IsWithinLimits};
 ghost use Rattle.vt_draw.specs.Lookups.{Note};
 ghost use Rattle.vt_blend.specs.Corners.{corners_at, AreInside};
-ghost use Rattle.vt_plain_bilinear.specs.Served.{GoesOn};
+ghost use Rattle.vt_plain_bilinear.specs.Served.{LookupGoesOn};
 ghost use Rattle.vt_texel_runs.specs.Blends.{spot_at, AreBlendsAlong};
-ghost use Rattle.vt_texel_runs.specs.Spans.{IsRun, AreWanted};
+ghost use Rattle.vt_texel_runs.specs.Spans.{IsSpanInside, AreWantedBySpan};
 
 use crate::spans::Span;
 use vt_blend::{Corners, blend_words, corners_at, weights_of};
@@ -55,13 +55,13 @@ fn blend_each<K: Lookup, const DEPTH: u32>(
 )
     requires depth { IsDepth DEPTH }
     requires limits { IsWithinLimits geometry.now }
-    requires inside { IsRun geometry.now span }
+    requires inside { IsSpanInside geometry.now span }
     requires bytes { length out.old ≡ texel_length DEPTH * span.count }
     requires pages { length pages.old ≡ span.count }
     requires shape { K.shape lookup.old ≡ geometry.now }
     ensures answered { AreBlendsAlong geometry.now DEPTH (K.version lookup.new) (K.says lookup.new) span span.count out.new }
-    ensures wanted { AreWanted geometry.now span span.count pages.new }
-    ensures on { GoesOn (K.shape lookup.old) (K.version lookup.old) (K.says lookup.old) (K.kept lookup.old)
+    ensures wanted { AreWantedBySpan geometry.now span span.count pages.new }
+    ensures on { LookupGoesOn (K.shape lookup.old) (K.version lookup.old) (K.says lookup.old) (K.kept lookup.old)
         (K.shape lookup.new) (K.version lookup.new) (K.says lookup.new) (K.kept lookup.new) }
 {
     if span.count == 0 {
@@ -97,12 +97,12 @@ pub fn blend_run<K: Lookup>(
 )
     requires depth { IsDepth depth }
     requires limits { IsWithinLimits geometry.now }
-    requires inside { IsRun geometry.now span.now }
+    requires inside { IsSpanInside geometry.now span.now }
     requires bytes { length out.old ≡ texel_length depth * span.now.count }
     requires pages { length pages.old ≡ span.now.count }
     requires shape { K.shape lookup.old ≡ geometry.now }
     ensures answered { AreBlendsAlong geometry.now depth (K.version lookup.new) (K.says lookup.new) span.now span.now.count out.new }
-    ensures wanted { AreWanted geometry.now span.now span.now.count pages.new }
+    ensures wanted { AreWantedBySpan geometry.now span.now span.now.count pages.new }
     ensures said { (note : Note) → K.says lookup.old note → K.says lookup.new note }
     ensures version { K.version lookup.new ≡ K.version lookup.old }
     ensures shape { K.shape lookup.new ≡ K.shape lookup.old }

@@ -5,7 +5,7 @@ ghost use Rattle.std.specs.List.{All};
 ghost use Rattle.std.specs.Bool.{MatchBool};
 ghost use Rattle.vt_definitions.specs.Depths.{IsDepth, texel_length};
 ghost use Rattle.vt_pages.specs.Pages.{levels_of, pages_of, IsWithinLimits};
-ghost use Rattle.vt_draw.specs.Lookups.{Note, WordNote, IsFinest, covering_page, covering_place};
+ghost use Rattle.vt_draw.specs.Lookups.{Note, WordNote, IsFinestFound, covering_page, covering_place};
 ghost use Rattle.vt_texel_runs.specs.Points.{IsPoint, AreAnswered};
 
 use vt_definitions::put_word;
@@ -60,9 +60,9 @@ pub(crate) fn page_at_place(geometry: &Geometry, level: u32, column: u32, line: 
 /// What a look-up finds for a page, given what it found for the page before.
 #[inline(always)]
 pub(crate) fn found_for<K: Lookup>(lookup: &mut K, before: u32, found: Found, page: u32) -> Found
-    requires before { IsFinest (K.shape lookup.old) (K.version lookup.old) (K.says lookup.old) before found }
+    requires before { IsFinestFound (K.shape lookup.old) (K.version lookup.old) (K.says lookup.old) before found }
     requires inside { page < pages_of (K.shape lookup.old) }
-    ensures finest { IsFinest (K.shape lookup.new) (K.version lookup.new) (K.says lookup.new) page result }
+    ensures finest { IsFinestFound (K.shape lookup.new) (K.version lookup.new) (K.says lookup.new) page result }
     ensures said { (note : Note) → K.says lookup.old note → K.says lookup.new note }
     ensures version { K.version lookup.new ≡ K.version lookup.old }
     ensures shape { K.shape lookup.new ≡ K.shape lookup.old }
@@ -88,7 +88,7 @@ pub(crate) fn word_at_place<K: Lookup>(
     requires level { level < levels_of (K.shape lookup.old) }
     requires column { column < (K.shape lookup.old).width }
     requires line { line < (K.shape lookup.old).height }
-    requires finest { IsFinest (K.shape lookup.old) (K.version lookup.old) (K.says lookup.old)
+    requires finest { IsFinestFound (K.shape lookup.old) (K.version lookup.old) (K.says lookup.old)
         (covering_page (K.shape lookup.old) level column line) found.now }
     ensures read { K.says lookup.new (WordNote (K.version lookup.new) found.now.slot
         (covering_place (K.shape lookup.new) found.now.level column line) result) }

@@ -5,7 +5,7 @@ ghost use Rattle.std.specs.Bool.{MatchBool};
 ghost use Rattle.vt_definitions.specs.Depths.{IsDepth, texel_length};
 ghost use Rattle.vt_pages.specs.Pages.{IsWithinLimits};
 ghost use Rattle.vt_draw.specs.Lookups.{Note};
-ghost use Rattle.vt_texel_runs.specs.Spans.{stepped, span_point, IsRun, AreSpanned, AreWanted};
+ghost use Rattle.vt_texel_runs.specs.Spans.{stepped, span_point, IsSpanInside, AreSpanned, AreWantedBySpan};
 
 use crate::points::{Point, found_for, is_point, page_at_place, word_at_place};
 use vt_definitions::put_word;
@@ -47,7 +47,7 @@ fn point_of(span: &Span, i: u32) -> Point
 
 /// Whether all points of a run are the texture's.
 pub fn is_run(geometry: &Geometry, span: &Span) -> bool
-    ensures { MatchBool result (IsRun geometry.now span.now) (IsRun geometry.now span.now → ⊥) }
+    ensures { MatchBool result (IsSpanInside geometry.now span.now) (IsSpanInside geometry.now span.now → ⊥) }
 {
     let width = geometry.width();
     let height = geometry.height();
@@ -71,12 +71,12 @@ fn read_each<K: Lookup, const DEPTH: u32>(
 )
     requires depth { IsDepth DEPTH }
     requires limits { IsWithinLimits geometry.now }
-    requires inside { IsRun geometry.now span.now }
+    requires inside { IsSpanInside geometry.now span.now }
     requires bytes { length out.old ≡ texel_length DEPTH * span.now.count }
     requires pages { length pages.old ≡ span.now.count }
     requires shape { K.shape lookup.old ≡ geometry.now }
     ensures answered { AreSpanned geometry.now DEPTH (K.version lookup.new) (K.says lookup.new) span.now span.now.count out.new }
-    ensures wanted { AreWanted geometry.now span.now span.now.count pages.new }
+    ensures wanted { AreWantedBySpan geometry.now span.now span.now.count pages.new }
     ensures said { (note : Note) → K.says lookup.old note → K.says lookup.new note }
     ensures version { K.version lookup.new ≡ K.version lookup.old }
     ensures shape { K.shape lookup.new ≡ K.shape lookup.old }
@@ -111,12 +111,12 @@ pub fn read_run<K: Lookup>(
 )
     requires depth { IsDepth depth }
     requires limits { IsWithinLimits geometry.now }
-    requires inside { IsRun geometry.now span.now }
+    requires inside { IsSpanInside geometry.now span.now }
     requires bytes { length out.old ≡ texel_length depth * span.now.count }
     requires pages { length pages.old ≡ span.now.count }
     requires shape { K.shape lookup.old ≡ geometry.now }
     ensures answered { AreSpanned geometry.now depth (K.version lookup.new) (K.says lookup.new) span.now span.now.count out.new }
-    ensures wanted { AreWanted geometry.now span.now span.now.count pages.new }
+    ensures wanted { AreWantedBySpan geometry.now span.now span.now.count pages.new }
     ensures said { (note : Note) → K.says lookup.old note → K.says lookup.new note }
     ensures version { K.version lookup.new ≡ K.version lookup.old }
     ensures shape { K.shape lookup.new ≡ K.shape lookup.old }

@@ -8,7 +8,7 @@ use Rattle.std.specs.Prelude.{min}
 use Rattle.std.proofs.lemmas.List.Concat.{flat_map-append}
 use Rattle.std.proofs.Math.Seq.{take-append-add, drop-cons}
 use Rattle.vt_outside.specs.Files.{gained}
-use Rattle.vt_text.specs.Pieces.{joined}
+use Rattle.vt_text.specs.Pieces.{joined_pieces}
 
 pub gained_more : (a b : List ℕ) (held : Option (List ℕ))
     → option_map (gained b) (option_map (gained a) held) ≡ option_map (gained (a ++ b)) held
@@ -17,19 +17,19 @@ gained_more a b (Some c) = ap Some (append_assoc c a b)
 
 -- all text is that of the first pieces, then the next one, and the rest
 whole : (pieces : List (Bor (List ℕ))) (i : ℕ) (d : Bor (List ℕ)) → i < length pieces
-    → (rest : List ℕ) × (joined pieces ≡ joined (take i pieces) ++ ((get_or pieces i d).now ++ rest))
+    → (rest : List ℕ) × (joined_pieces pieces ≡ joined_pieces (take i pieces) ++ ((get_or pieces i d).now ++ rest))
 whole pieces i d inside = (
-  joined (drop (suc i) pieces),
-  ap joined (sym (take-append-drop i pieces))
+  joined_pieces (drop (suc i) pieces),
+  ap joined_pieces (sym (take-append-drop i pieces))
       ∙ flat_map-append (λ (p : Bor (List ℕ)). p.now) (take i pieces) (drop i pieces)
-      ∙ ap (λ (ps : List (Bor (List ℕ))). joined (take i pieces) ++ joined ps) (drop-cons pieces i d inside),
+      ∙ ap (λ (ps : List (Bor (List ℕ))). joined_pieces (take i pieces) ++ joined_pieces ps) (drop-cons pieces i d inside),
 )
 
 -- a prefix of the next piece after the first ones is a prefix of the whole
 pub part_of_joined : (pieces : List (Bor (List ℕ))) (i : ℕ) (d : Bor (List ℕ)) (k : ℕ) → i < length pieces
-    → (j : ℕ) × (joined (take i pieces) ++ take k (get_or pieces i d).now ≡ take j (joined pieces))
+    → (j : ℕ) × (joined_pieces (take i pieces) ++ take k (get_or pieces i d).now ≡ take j (joined_pieces pieces))
 part_of_joined pieces i d k inside =
-    let a = joined (take i pieces) in
+    let a = joined_pieces (take i pieces) in
     let x = (get_or pieces i d).now in
     let w = whole pieces i d inside in
     let m = min k (length x) in

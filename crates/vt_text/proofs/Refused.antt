@@ -13,8 +13,8 @@ none_whole (Err e) R P is = tt
 -- a count that rose in the last put rose in all of them
 pub rose_since : {T U : Type 0} (q : Result T OutsideError) (e kind : OutsideError) (first before after : ℕ) → IsErrAnd q (λ x. x ≡ e)
     → (IsErrOf {T = U} (Err e) kind → Rose before after) → first ≤ before → IsErrOf q kind → Rose first after
-rose_since (Ok x) e kind first before after is told below h = absurd is
-rose_since {T} {U} (Err x) e kind first before after is told below h =
+rose_since (Ok x) e kind first before after is known below h = absurd is
+rose_since {T} {U} (Err x) e kind first before after is known below h =
     let same : e ≡ kind = cc in
-    let rose : Rose before after = told (ap Err same) in
+    let rose : Rose before after = known (ap Err same) in
     omega (arith, rose)

@@ -4,6 +4,6 @@ pub use Rattle.vt_definitions.specs.Tiles
 pub use Rattle.vt_outside.specs.Lists
 pub mod Lines
 pub mod Numbers
-pub mod Telling
+pub mod Printing
 pub mod Pieces
 pub mod Places

@@ -11,8 +11,8 @@ mod place;
 pub use line::{LINE_ROOM, Line};
 pub use lines::{field, next_line};
 pub use numbers::{decimal, put_number};
-pub use pieces::{put_pieces, tell_pieces};
-pub use place::{Place, tell_bad_input, tell_place};
+pub use pieces::{print_pieces, put_pieces};
+pub use place::{Place, print_bad_input, print_place};
 pub use vt_definitions::{MOST_TILE_SIDE, is_tile_side, word_in};
 pub use vt_outside::{Items, NoMemory};
 

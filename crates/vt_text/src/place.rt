@@ -3,10 +3,10 @@
 ghost use Rattle.std.specs.Prelude.{◌≡◌, ◌++◌, codes};
 ghost use Rattle.vt_text.specs.Numbers.{number_spelling};
 ghost use Rattle.vt_text.specs.Places.{number_text, place_text, place_line, bad_input_line};
-ghost use Rattle.vt_text.specs.Telling.{Tells};
+ghost use Rattle.vt_text.specs.Printing.{Prints};
 
 use crate::line::Line;
-use crate::pieces::tell_pieces;
+use crate::pieces::print_pieces;
 use vt_outside::Sink;
 
 /// What is wrong, or what is wanted: words and numbers in turn, three of each at most.
@@ -87,36 +87,36 @@ impl<'a> Place<'a> {
 }
 
 /// Puts the line `vtex: bad input: <name>: <place>`. The first put that is refused ends it.
-pub fn tell_bad_input<S: Sink>(sink: &mut S, name: &str, place: &Place<'_>)
-    ensures { Tells (bad_input_line name.now (place_text place.now)) (S.held sink.old) (S.held sink.new)
+pub fn print_bad_input<S: Sink>(sink: &mut S, name: &str, place: &Place<'_>)
+    ensures { Prints (bad_input_line name.now (place_text place.now)) (S.held sink.old) (S.held sink.new)
         (S.faults sink.old) (S.faults sink.new) (S.refusals sink.old) (S.refusals sink.new) }
 {
-    tell_line(sink, b"vtex: bad input: ", name.as_bytes(), b": ", place);
+    print_line(sink, b"vtex: bad input: ", name.as_bytes(), b": ", place);
 }
 
 /// Puts the line `vtex: <place>`. The first put that is refused ends it.
-pub fn tell_place<S: Sink>(sink: &mut S, place: &Place<'_>)
-    ensures { Tells (place_line (place_text place.now)) (S.held sink.old) (S.held sink.new)
+pub fn print_place<S: Sink>(sink: &mut S, place: &Place<'_>)
+    ensures { Prints (place_line (place_text place.now)) (S.held sink.old) (S.held sink.new)
         (S.faults sink.old) (S.faults sink.new) (S.refusals sink.old) (S.refusals sink.new) }
 {
-    tell_line(sink, b"vtex: ", b"", b"", place);
+    print_line(sink, b"vtex: ", b"", b"", place);
 }
 
 // Puts the line of a place behind three pieces.
-fn tell_line<'a, S: Sink>(
+fn print_line<'a, S: Sink>(
     sink: &mut S,
     front: &'a [u8],
     name: &'a [u8],
     colon: &'a [u8],
     place: &Place<'a>,
 )
-    ensures { Tells (front.now ++ (name.now ++ (colon.now ++ (place_text place.now ++ codes "\n")))) (S.held sink.old) (S.held sink.new)
+    ensures { Prints (front.now ++ (name.now ++ (colon.now ++ (place_text place.now ++ codes "\n")))) (S.held sink.old) (S.held sink.new)
         (S.faults sink.old) (S.faults sink.new) (S.refusals sink.old) (S.refusals sink.new) }
 {
     let number = number_line(place.number);
     let second = number_line(place.second_number);
     let last = number_line(place.last_number);
-    tell_pieces(
+    print_pieces(
         sink,
         &[
             front,

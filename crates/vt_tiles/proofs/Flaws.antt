@@ -83,12 +83,12 @@ whole_shape head n none = not_some (refusal_of (header_shape head))
     (WrongLength (store_length (header_shape head) (store_depth head)) n) none).0
 
 -- the shape of a header, by its three numbers
-pub told_shape : (head : List ℕ) (w h t : ℕ) → w ≡ number_from head 4 4 → h ≡ number_from head 8 4 → t ≡ number_from head 12 4
+pub spelled_shape : (head : List ℕ) (w h t : ℕ) → w ≡ number_from head 4 4 → h ≡ number_from head 8 4 → t ≡ number_from head 12 4
     → header_shape head ≡ shape_of w h t
 unfolding header_shape
-told_shape head w h t ew eh et = rw (ew, eh, et) refl
+spelled_shape head w h t ew eh et = rw (ew, eh, et) refl
 
 -- the length of a store, by the geometry that was made of its header and the depth
-pub told_length : (head : List ℕ) (g s : Shape) (d want : ℕ) → g ≡ s → header_shape head ≡ s → d ≡ store_depth head → want ≡ store_length g d
+pub spelled_length : (head : List ℕ) (g s : Shape) (d want : ℕ) → g ≡ s → header_shape head ≡ s → d ≡ store_depth head → want ≡ store_length g d
     → want ≡ store_length (header_shape head) (store_depth head)
-told_length head g s d want gs hs ds is = is ∙ ap (λ n. store_length g n) ds ∙ ap (λ z. store_length z (store_depth head)) (gs ∙ sym hs)
+spelled_length head g s d want gs hs ds is = is ∙ ap (λ n. store_length g n) ds ∙ ap (λ z. store_length z (store_depth head)) (gs ∙ sym hs)

@@ -5,32 +5,32 @@ use Rattle.vt_pages.specs.Depths.{IsDepth}
 use Rattle.vt_pages.specs.Numbers.{number_from, number_bytes}
 use Rattle.vt_pages.specs.Shape.{Shape}
 use Rattle.vt_tiles.specs.Format.{magic, has_magic, store_depth, header_bytes}
-use Rattle.vt_tiles.specs.StoreViews.{TellsDepth}
+use Rattle.vt_tiles.specs.StoreViews.{SpellsDepth}
 
 or_true : (a : Bool) → (a || true) ≡ true
 or_true true = refl
 or_true false = refl
 
-pub tells_wide : (b : List ℕ) → bytes_eq (take 4 b) (magic 2) ≡ true → TellsDepth b 2
+pub spells_wide : (b : List ℕ) → bytes_eq (take 4 b) (magic 2) ≡ true → SpellsDepth b 2
 unfolding has_magic store_depth
-tells_wide b is = record { has = rw is (or_true (bytes_eq (take 4 b) (magic 1))); is = rw is refl; lawful = inr refl }
+spells_wide b is = record { has = rw is (or_true (bytes_eq (take 4 b) (magic 1))); is = rw is refl; lawful = inr refl }
 
-pub tells_narrow : (b : List ℕ) → bytes_eq (take 4 b) (magic 2) ≡ false → bytes_eq (take 4 b) (magic 1) ≡ true → TellsDepth b 1
+pub spells_narrow : (b : List ℕ) → bytes_eq (take 4 b) (magic 2) ≡ false → bytes_eq (take 4 b) (magic 1) ≡ true → SpellsDepth b 1
 unfolding has_magic store_depth
-tells_narrow b other is = record { has = rw is refl; is = rw other refl; lawful = inl refl }
+spells_narrow b other is = record { has = rw is refl; is = rw other refl; lawful = inl refl }
 
-pub tells_none : (b : List ℕ) → bytes_eq (take 4 b) (magic 2) ≡ false → bytes_eq (take 4 b) (magic 1) ≡ false → has_magic b ≡ false
+pub spells_none : (b : List ℕ) → bytes_eq (take 4 b) (magic 2) ≡ false → bytes_eq (take 4 b) (magic 1) ≡ false → has_magic b ≡ false
 unfolding has_magic
-tells_none b wide narrow = rw (narrow, wide) refl
+spells_none b wide narrow = rw (narrow, wide) refl
 
 either_depth : (t : Bool) → IsDepth (if t then 2 else 1)
 either_depth true = inr refl
 either_depth false = inl refl
 
 -- bytes tell a lawful depth, whatever they are
-pub told_depth : (b : List ℕ) → IsDepth (store_depth b)
+pub spelled_depth : (b : List ℕ) → IsDepth (store_depth b)
 unfolding store_depth
-told_depth b = either_depth (bytes_eq (take 4 b) (magic 2))
+spelled_depth b = either_depth (bytes_eq (take 4 b) (magic 2))
 
 pub header_sixteen : (s : Shape) (d : ℕ) → IsDepth d → length (header_bytes s d) ≡ 16
 unfolding header_bytes

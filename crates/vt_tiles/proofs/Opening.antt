@@ -12,11 +12,11 @@ use Rattle.vt_pages.specs.Shape.{Shape}
 use Rattle.vt_pages.specs.Pages.{pages_of}
 use Rattle.vt_tiles.specs.Format.{flaw_of, has_magic, magic, header_shape, store_depth, store_flaw, store_length, tile_start, tile_length}
 use Rattle.vt_tiles.specs.Places.{OpenerAsks}
-use Rattle.vt_tiles.specs.StoreViews.{IsStore, IsStoreIfTold}
+use Rattle.vt_tiles.specs.StoreViews.{IsStore, IsStoreIfKnown}
 use Rattle.vt_tiles.specs.Refusals.{IsOutsideRefusal}
 use Rattle.vt_tiles.specs.declared.error.StoreError.{StoreError}
 use Rattle.vt_tiles.specs.declared.error.StoreError.TheVariants.{Failed, NoMemory}
-use Rattle.vt_tiles.proofs.Flaws.{whole_length, told_shape}
+use Rattle.vt_tiles.proofs.Flaws.{whole_length, spelled_shape}
 use Rattle.vt_tiles.proofs.Headers.{number_same}
 
 front_number : (b : List ℕ) (i : ℕ) → i + 3 < 16 → number_from (take 16 b) i 4 ≡ number_from b i 4
@@ -24,7 +24,7 @@ front_number b i h = number_same (take 16 b) b i i 4 (λ c q. get_or-take 16 b (
 
 pub front_shape : (b : List ℕ) → header_shape (take 16 b) ≡ header_shape b
 unfolding header_shape
-front_shape b = told_shape (take 16 b) (number_from b 4 4) (number_from b 8 4) (number_from b 12 4)
+front_shape b = spelled_shape (take 16 b) (number_from b 4 4) (number_from b 8 4) (number_from b 12 4)
     (sym (front_number b 4 (omega arith))) (sym (front_number b 8 (omega arith))) (sym (front_number b 12 (omega arith)))
 
 pub front_depth : (b : List ℕ) → store_depth (take 16 b) ≡ store_depth b
@@ -45,11 +45,11 @@ read_front b head n len short piece =
     let e : length head ≡ min 16 (length b) = omega arith in
     piece.same ∙ ap (λ m. take m b) e ∙ take_min 16 b
 
-pub opened_store : (r : Result (Shape × ℕ) StoreError) (told after : Option (List ℕ)) (head : List ℕ) (n : ℕ) → after ≡ told
-    → IfSome told (λ b. n ≡ length b) → IfSome after (λ b. IsPiece b 0 head) → length head ≡ min n 16
+pub opened_store : (r : Result (Shape × ℕ) StoreError) (known after : Option (List ℕ)) (head : List ℕ) (n : ℕ) → after ≡ known
+    → IfSome known (λ b. n ≡ length b) → IfSome after (λ b. IsPiece b 0 head) → length head ≡ min n 16
     → IfOk r (λ h. h.0 ≡ header_shape head) → IfOk r (λ h. h.1 ≡ store_depth head) → OnOk r (flaw_of head n ≡ None)
-    → IfOk r (λ h. IsStoreIfTold told h.0 h.1)
-opened_store (Err e) told after head n same len piece short shape depth none = tt
+    → IfOk r (λ h. IsStoreIfKnown known h.0 h.1)
+opened_store (Err e) known after head n same len piece short shape depth none = tt
 opened_store (Ok h) None after head n same len piece short shape depth none = record { each = λ c e. let no : ⊥ = cc in absurd no }
 opened_store (Ok h) (Some b) None head n same len piece short shape depth none = let no : ⊥ = cc in absurd no
 opened_store (Ok h) (Some b) (Some a) head n same len piece short shape depth none =
@@ -57,17 +57,17 @@ opened_store (Ok h) (Some b) (Some a) head n same len piece short shape depth no
     let piece_b : IsPiece b 0 head = let P : List ℕ → Type 0 = λ l. IsPiece l 0 head in subst P ab piece in
     let front : head ≡ take 16 b = read_front b head n len short piece_b in
     let flaw : flaw_of b (length b) ≡ None = ap (λ m. flaw_of b m) (sym len) ∙ sym (front_flaw b n) ∙ ap (λ l. flaw_of l n) (sym front) ∙ none in
-    let told : header_shape b ≡ h.0 = sym (front_shape b) ∙ ap header_shape (sym front) ∙ sym shape in
+    let spelled : header_shape b ≡ h.0 = sym (front_shape b) ∙ ap header_shape (sym front) ∙ sym shape in
     let deep : store_depth b ≡ h.1 = sym (front_depth b) ∙ ap store_depth (sym front) ∙ sym depth in
     record {
       each = λ c e. let bc : b ≡ c = cc in let P : List ℕ
-          → Type 0 = λ l. IsStore l h.0 h.1 in subst P bc (record { no_flaw = flaw; shape_is = told; depth_is = deep });
+          → Type 0 = λ l. IsStore l h.0 h.1 in subst P bc (record { no_flaw = flaw; shape_is = spelled; depth_is = deep });
     }
 
-pub refused_store : (r : Result (Shape × ℕ) StoreError) (told after : Option (List ℕ)) (head : List ℕ) (n : ℕ) → after ≡ told
-    → IfSome told (λ b. n ≡ length b) → IfSome after (λ b. IsPiece b 0 head) → length head ≡ min n 16
-    → IfErr r (λ e. flaw_of head n ≡ Some e) → IfErr r (λ e. (IsOutsideRefusal e → ⊥) → IfSome told (λ b. store_flaw b ≡ Some e))
-refused_store (Ok h) told after head n same len piece short flaw = tt
+pub refused_store : (r : Result (Shape × ℕ) StoreError) (known after : Option (List ℕ)) (head : List ℕ) (n : ℕ) → after ≡ known
+    → IfSome known (λ b. n ≡ length b) → IfSome after (λ b. IsPiece b 0 head) → length head ≡ min n 16
+    → IfErr r (λ e. flaw_of head n ≡ Some e) → IfErr r (λ e. (IsOutsideRefusal e → ⊥) → IfSome known (λ b. store_flaw b ≡ Some e))
+refused_store (Ok h) known after head n same len piece short flaw = tt
 refused_store (Err e) None after head n same len piece short flaw = λ _. tt
 refused_store (Err e) (Some b) None head n same len piece short flaw = let no : ⊥ = cc in absurd no
 refused_store (Err e) (Some b) (Some a) head n same len piece short flaw = λ _.
@@ -82,22 +82,22 @@ no_failure (Ok x) a b real failed = let never : ⊥ = cc in absurd never
 no_failure (Err e) a b real failed = let is : e ≡ Failed = cc in absurd (real (subst IsOutsideRefusal (sym is) tt))
 
 -- an opening that was refused before it read
-pub asks_failed : {T : Type 0} (told : Option (List ℕ)) (r : Result T StoreError) (a0 a1 : Option (List Place)) → IsErrAnd r (λ x. x ≡ Failed)
-    → a1 ≡ a0 → OpenerAsks told (result_err r) a0 a1
-asks_failed told (Ok x) a0 a1 is same = absurd is
-asks_failed told (Err x) a0 a1 is same = subst (λ (e : StoreError). OpenerAsks told (Some e) a0 a1) (sym is) (inl same)
+pub asks_failed : {T : Type 0} (known : Option (List ℕ)) (r : Result T StoreError) (a0 a1 : Option (List Place)) → IsErrAnd r (λ x. x ≡ Failed)
+    → a1 ≡ a0 → OpenerAsks known (result_err r) a0 a1
+asks_failed known (Ok x) a0 a1 is same = absurd is
+asks_failed known (Err x) a0 a1 is same = subst (λ (e : StoreError). OpenerAsks known (Some e) a0 a1) (sym is) (inl same)
 
-pub asks_nothing : {T : Type 0} (told : Option (List ℕ)) (r : Result T StoreError) (a0 a1 : Option (List Place)) → IsErrAnd r (λ x. x ≡ NoMemory)
-    → a1 ≡ a0 → OpenerAsks told (result_err r) a0 a1
-asks_nothing told (Ok x) a0 a1 is same = absurd is
-asks_nothing told (Err x) a0 a1 is same = subst (λ (e : StoreError). OpenerAsks told (Some e) a0 a1) (sym is) same
+pub asks_nothing : {T : Type 0} (known : Option (List ℕ)) (r : Result T StoreError) (a0 a1 : Option (List Place)) → IsErrAnd r (λ x. x ≡ NoMemory)
+    → a1 ≡ a0 → OpenerAsks known (result_err r) a0 a1
+asks_nothing known (Ok x) a0 a1 is same = absurd is
+asks_nothing known (Err x) a0 a1 is same = subst (λ (e : StoreError). OpenerAsks known (Some e) a0 a1) (sym is) same
 
 tiles_below : (p count n t : ℕ) → p + count ≤ n → p * t + count * t ≤ n * t
 tiles_below p count n t h = let e : p * t + count * t ≡ (p + count) * t = omega arith in rw e (mul-le (p + count) t n t h (omega arith))
 
 -- the tiles of some pages are inside a store
-pub tiles_inside : (told : Option (List ℕ)) (s : Shape) (d p count n : ℕ) → IsStoreIfTold told s d → p + count ≤ pages_of s
-    → n ≡ count * tile_length s d → IfSome told (λ b. tile_start s d p + n ≤ length b)
+pub tiles_inside : (known : Option (List ℕ)) (s : Shape) (d p count n : ℕ) → IsStoreIfKnown known s d → p + count ≤ pages_of s
+    → n ≡ count * tile_length s d → IfSome known (λ b. tile_start s d p + n ≤ length b)
 tiles_inside None s d p count n store h e = tt
 tiles_inside (Some b) s d p count n store h e =
     let is : IsStore b s d = store.each b refl in

@@ -19,8 +19,8 @@ use Rattle.vt_tiles.specs.Format.{has_magic, header_bytes, tile_area, tile_lengt
 use Rattle.vt_tiles.specs.Laws.{StoresOpen, StoresHoldSources, StoredWordsAreSmall, PiecesHoldTexels}
 use Rattle.vt_tiles.specs.TileLines.{piece_at, tile_word}
 use Rattle.vt_tiles.proofs.Accepted.{accepted_small}
-use Rattle.vt_tiles.proofs.Flaws.{no_flaw, told_shape, whole_shape}
-use Rattle.vt_tiles.proofs.Headers.{told_depth, header_sixteen}
+use Rattle.vt_tiles.proofs.Flaws.{no_flaw, spelled_shape, whole_shape}
+use Rattle.vt_tiles.proofs.Headers.{spelled_depth, header_sixteen}
 use Rattle.vt_tiles.proofs.Pieces.{bytes_same, place_in, word_piece, word_same}
 use Rattle.vt_tiles.proofs.Tiles.{tiles_piece, tiles_bytes_length, tile_word_is}
 
@@ -50,7 +50,7 @@ store_tile s d src (inr two) = rw two refl
 pub store_shape : (s : Shape) (d : ℕ) (src : Source) → IsDepth d → refusal_of s ≡ None → header_shape (store_bytes s d src) ≡ s
 store_shape s d src depth accepted =
     let small = accepted_small s accepted in
-    told_shape (store_bytes s d src) s.width s.height s.tile
+    spelled_shape (store_bytes s d src) s.width s.height s.tile
     (sym (store_width s d src depth ∙ number_back s.width small.few_columns))
     (sym (store_height s d src depth ∙ number_back s.height small.few_rows))
     (sym (store_tile s d src depth ∙ number_back s.tile (omega (arith, small.few_tile))))
@@ -126,7 +126,7 @@ dropped_bytes b k are = λ i d h. rw (get_or-drop k b i d) (are (k + i) d (omega
 pub stored_words_are_small : StoredWordsAreSmall
 unfolding stored
 stored_words_are_small b k x y bytes =
-    words_small (store_depth b) (drop header_length b) (texel_number (header_shape b) k x y) (told_depth b) (dropped_bytes b header_length bytes)
+    words_small (store_depth b) (drop header_length b) (texel_number (header_shape b) k x y) (spelled_depth b) (dropped_bytes b header_length bytes)
 
 -- a byte of a piece
 byte_of_piece : (b tile : List ℕ) (at n i : ℕ) → IsPiece b at tile → length tile ≡ n → i < n → slice_index tile i ≡ slice_index b (at + i)

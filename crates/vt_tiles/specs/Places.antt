@@ -10,19 +10,19 @@ use Rattle.vt_tiles.specs.declared.error.StoreError.{StoreError}
 use Rattle.vt_tiles.specs.declared.error.StoreError.TheVariants.{Failed, NoMemory}
 
 -- one place more was asked: the bytes of the header from the first one on, or all where the file is told to have fewer
-pub record AsksHeader (told : Option (List ℕ)) (failed : Bool) (before after : Option (List Place)) : Type 0 where
+pub record AsksStoreHeader (known : Option (List ℕ)) (failed : Bool) (before after : Option (List Place)) : Type 0 where
   pub count : ℕ
   pub few : count ≤ header_length
-  pub of_told : IfSome told (λ bytes. count ≡ min (length bytes) header_length)
+  pub of_known : IfSome known (λ bytes. count ≡ min (length bytes) header_length)
   pub one : after ≡ option_map (noted 0 count failed) before
 
 -- what an opening asks, by its refusal or none: a store and a flaw are found by one read of the header, and a fault or want of memory
 -- comes before it, or the fault is that read's
 abbrev pub OpenerAsks : Option (List ℕ) → Option StoreError → Option (List Place) → Option (List Place) → Type 0
-OpenerAsks told None before after = after ≡ option_map (noted 0 header_length false) before
-OpenerAsks told (Some Failed) before after = (after ≡ before) ⊎ AsksHeader told true before after
-OpenerAsks told (Some NoMemory) before after = after ≡ before
-OpenerAsks told (Some _) before after = AsksHeader told false before after
+OpenerAsks known None before after = after ≡ option_map (noted 0 header_length false) before
+OpenerAsks known (Some Failed) before after = (after ≡ before) ⊎ AsksStoreHeader known true before after
+OpenerAsks known (Some NoMemory) before after = after ≡ before
+OpenerAsks known (Some _) before after = AsksStoreHeader known false before after
 
 -- one place more was asked: that of so many tiles from a page on
 abbrev pub TilesAsked : Shape → ℕ → ℕ → ℕ → Bool → Option (List Place) → Option (List Place) → Type 0

@@ -12,7 +12,7 @@ pub record StoreView (F : Type 0) : Type 0 where
   pub depth : ℕ
 
 -- the bytes begin as a store of this depth does
-pub record TellsDepth (bytes : List ℕ) (depth : ℕ) : Type 0 where
+pub record SpellsDepth (bytes : List ℕ) (depth : ℕ) : Type 0 where
   pub has : has_magic bytes ≡ true
   pub is : depth ≡ store_depth bytes
   pub lawful : IsDepth depth
@@ -23,13 +23,13 @@ pub record IsStore (bytes : List ℕ) (shape : Shape) (depth : ℕ) : Type 0 whe
   pub shape_is : header_shape bytes ≡ shape
   pub depth_is : store_depth bytes ≡ depth
 
--- the bytes, where they are told, are a store of this shape and this depth
-pub record IsStoreIfTold (told : Option (List ℕ)) (shape : Shape) (depth : ℕ) : Type 0 where
-  pub each : (bytes : List ℕ) → told ≡ Some bytes → IsStore bytes shape depth
+-- the bytes, where they are known, are a store of this shape and this depth
+pub record IsStoreIfKnown (known : Option (List ℕ)) (shape : Shape) (depth : ℕ) : Type 0 where
+  pub each : (bytes : List ℕ) → known ≡ Some bytes → IsStore bytes shape depth
 
--- what a reader knows of its file: it is a store where its bytes are told, and its depth is one that a store may have
-pub record IsOpened (told : Option (List ℕ)) (shape : Shape) (depth : ℕ) : Type 0 where
-  pub store : IsStoreIfTold told shape depth
+-- what a reader knows of its file: it is a store where its bytes are known, and its depth is one that a store may have
+pub record IsOpened (known : Option (List ℕ)) (shape : Shape) (depth : ℕ) : Type 0 where
+  pub store : IsStoreIfKnown known shape depth
   pub lawful : IsDepth depth
 
 -- the file that an opening hands back, in the store or beside the refusal

@@ -5,7 +5,7 @@ ghost use Rattle.vt_pages.specs.Limits.{most_tile_side};
 ghost use Rattle.vt_pages.specs.Numbers.{number_from};
 ghost use Rattle.vt_pages.specs.Pages.{pages_of};
 ghost use Rattle.vt_tiles.specs.Format.{flaw_of, has_magic, header_shape, store_depth, tile_start, tile_length, store_length, header_length, header_bytes, magic};
-ghost use Rattle.vt_tiles.specs.StoreViews.{TellsDepth};
+ghost use Rattle.vt_tiles.specs.StoreViews.{SpellsDepth};
 ghost use Rattle.vt_tiles.specs.Refusals.{IsOutsideRefusal};
 
 use crate::StoreError;
@@ -90,7 +90,7 @@ fn begins_with(head: &[u8], magic: [u8; 4]) -> bool
 
 // The depth that the first bytes tell, where they are those of a store.
 fn magic_depth(head: &[u8]) -> Option<u32>
-    ensures { MatchOption result (has_magic head.now ≡ false) (TellsDepth head.now) }
+    ensures { MatchOption result (has_magic head.now ≡ false) (SpellsDepth head.now) }
 {
     if begins_with(head, WIDE_MAGIC) {
         Some(2)

@@ -7,7 +7,7 @@ ghost use Rattle.vt_outside.specs.Files.{IsPiece};
 ghost use Rattle.vt_pages.specs.Pages.{pages_of};
 ghost use Rattle.vt_tiles.specs.Format.{store_flaw, tile_start, tile_length};
 ghost use Rattle.vt_tiles.specs.Places.{OpenerAsks, TilesAsked, TileAsked};
-ghost use Rattle.vt_tiles.specs.StoreViews.{IsStoreIfTold, file_after, refusal_in};
+ghost use Rattle.vt_tiles.specs.StoreViews.{IsStoreIfKnown, file_after, refusal_in};
 ghost use Rattle.vt_tiles.specs.Refusals.{IsOutsideRefusal};
 
 use crate::StoreError;
@@ -38,7 +38,7 @@ impl<F: File> Model for Store<F> {
 
 // Reads the header of a file, by one read of its first 16 bytes, or of all where there are fewer.
 fn read_header<F: File>(file: &mut F) -> Result<(Geometry, u32), StoreError>
-    ensures store { IfOk result (λ h. IsStoreIfTold (F.bytes file.old) h.0 h.1) }
+    ensures store { IfOk result (λ h. IsStoreIfKnown (F.bytes file.old) h.0 h.1) }
     ensures lawful { IfOk result (λ h. IsDepth h.1) }
     ensures flaw { IfErr result (λ e. (IsOutsideRefusal e → ⊥) → IfSome (F.bytes file.old) (λ b. store_flaw b ≡ Some e)) }
     ensures failed { IsErrOf result StoreError.Failed → Rose (F.faults file.old) (F.faults file.new) }
@@ -63,7 +63,7 @@ impl<F: File> Store<F> {
     /// bytes, after that one read. `Failed` comes only where the file's count of faults rose, before the read or by it, and
     /// `NoMemory` where memory was refused, before the read.
     pub fn open(mut file: F) -> Result<Store<F>, (F, StoreError)>
-        ensures store { IfOk result (λ s. IsStoreIfTold (F.bytes file) s.shape s.depth) }
+        ensures store { IfOk result (λ s. IsStoreIfKnown (F.bytes file) s.shape s.depth) }
         ensures depth { IfOk result (λ s. IsDepth s.depth) }
         ensures flaw { IfErr result (λ e. (IsOutsideRefusal e.1 → ⊥) → IfSome (F.bytes file) (λ b. store_flaw b ≡ Some e.1)) }
         ensures failed { IfErr result (λ e. e.1 ≡ StoreError.Failed → Rose (F.faults file) (F.faults e.0)) }
@@ -86,7 +86,7 @@ impl<F: File> Store<F> {
     /// of `depth` bytes, 1 or 2, as those of a file that was opened before.
     pub fn same(file: F, geometry: &Geometry, depth: u32) -> Store<F>
         requires depth { IsDepth depth }
-        requires store { IsStoreIfTold (F.bytes file) geometry.now depth }
+        requires store { IsStoreIfKnown (F.bytes file) geometry.now depth }
         ensures { result ≡ record { file = file; shape = geometry.now; depth = depth } }
     {
         Store {
@@ -152,7 +152,7 @@ impl<F: File> Store<F> {
     /// How the store is cut into pages.
     pub fn geometry(&self) -> Geometry
         ensures shape { result ≡ self.now.shape }
-        ensures store { IsStoreIfTold (F.bytes self.now.file) self.now.shape self.now.depth }
+        ensures store { IsStoreIfKnown (F.bytes self.now.file) self.now.shape self.now.depth }
     {
         self.geometry
     }
@@ -161,7 +161,7 @@ impl<F: File> Store<F> {
     pub fn depth(&self) -> u32
         ensures value { result ≡ self.now.depth }
         ensures lawful { IsDepth self.now.depth }
-        ensures store { IsStoreIfTold (F.bytes self.now.file) self.now.shape self.now.depth }
+        ensures store { IsStoreIfKnown (F.bytes self.now.file) self.now.shape self.now.depth }
     {
         self.depth
     }

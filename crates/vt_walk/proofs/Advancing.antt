@@ -14,7 +14,7 @@ use Rattle.vt_feedback.specs.declared.Wanted.{Wanted}
 use Rattle.vt_feedback.specs.Wants.{IsWants}
 use Rattle.vt_evict.specs.PlanTypes.batches.Planned.{Planned}
 use Rattle.vt_plan.specs.Views.{RecencyView, pages_needed}
-use Rattle.vt_evict.specs.Batches.{IsLawful, IsSettled, read_entries}
+use Rattle.vt_evict.specs.Batches.{IsLawfulBatch, IsSettledByReads, read_entries}
 use Rattle.vt_plan.specs.Plans.{plan_of}
 use Rattle.vt_walk_decisions.specs.Drawings.{Drawing}
 use Rattle.vt_walk_decisions.specs.MachineTypes.machine.PassMachine.{Ghosts as MachineMeanings}
@@ -26,15 +26,15 @@ use Rattle.vt_walk_decisions.specs.Requests.{FileState, AreReadFor, ArePartlyRea
 use Rattle.vt_outside.specs.Counts.{RoseTogetherBy}
 use Rattle.vt_outside.specs.declared.answers.NoMemory.{NoMemory}
 use Rattle.vt_walk_decisions.specs.Machines.{Setup, MachineState}
-use Rattle.vt_walk_decisions.specs.Passes.{MayPrepare, IsJobFor, Ran, Broke, Ends}
-use Rattle.vt_walk_decisions.specs.declared.steps.Outlook.{Outlook}
+use Rattle.vt_walk_decisions.specs.Passes.{MayPrepare, IsJobFor, Ran, Broke, EndsPassRun}
+use Rattle.vt_walk_decisions.specs.declared.steps.NextPlan.{NextPlan}
 use Rattle.vt_walk_decisions.specs.declared.tallies.Tally.{Tally}
 use Rattle.vt_walk_decisions.specs.declared.input.WalkInput.{WalkInput}
 use Rattle.vt_walk_decisions.specs.declared.steps.WalkStep.{WalkStep}
 use Rattle.vt_walk_decisions.specs.declared.steps.Drawn.{Drawn}
 use Rattle.vt_walk.specs.DrawnBy.{PictureDrawn, IsDrawnBySome, AnyRow}
 use Rattle.vt_walk.specs.Fits.{WalkSetup}
-use Rattle.vt_walk.specs.Runs.{WalkPass, IsWalkSetup, IsRun, pass_of, journal_after, recency_after}
+use Rattle.vt_walk.specs.Runs.{WalkPass, IsWalkSetup, IsWalkRun, walk_pass_of, journal_after, recency_after}
 use Rattle.vt_walk_decisions.specs.Tallies.{is_load, is_loss, is_eviction}
 use Rattle.vt_walk.specs.Logs.{events_in, passes_of}
 use Rattle.vt_walk.specs.Outlooks.{IsOutlook}
@@ -42,9 +42,9 @@ use Rattle.vt_walk_decisions.specs.Reported.{IsReported}
 use Rattle.vt_walk_decisions.specs.Tallies.{with_pass}
 use Rattle.vt_walk.specs.Tallies.{tally_of}
 use Rattle.vt_walk.specs.WalkInputs.{given_of, input_scene, IsWalkInput}
-use Rattle.vt_walk.specs.WalkSteps.{MayDraw, HasDrawnPass}
+use Rattle.vt_walk.specs.WalkSteps.{MayTakeStep, HasDrawnPass}
 use Rattle.vt_walk.specs.Following.{HasRunStep}
-use Rattle.vt_walk.specs.Walks.{machine_of}
+use Rattle.vt_walk.specs.Walks.{setup_of_walk}
 use Rattle.vt_walk.proofs.Agreeing.{root_last}
 use Rattle.vt_walk.proofs.Asking.{count_lost, reads_more}
 use Rattle.vt_walk.proofs.Bounds.{outcome_short, events_short, journal_short, kind_short, reads_short, events_in_chain}
@@ -53,7 +53,7 @@ use Rattle.vt_walk.proofs.Running.{run_kept, batch_is_lawful, batch_may_be_run, 
 use Rattle.vt_walk.proofs.Showing.{self_number}
 use Rattle.vt_walk.proofs.Wholeness.{mapped_some, pin_true}
 
-root_mapped : (w : WalkSetup) (passes : List WalkPass) → IsWalkSetup w → IsRun w passes → IsSome (newest (journal_after w passes) (root_of w.shape))
+root_mapped : (w : WalkSetup) (passes : List WalkPass) → IsWalkSetup w → IsWalkRun w passes → IsSome (newest (journal_after w passes) (root_of w.shape))
 root_mapped w passes h run =
     let kept = run_kept w passes h run in
     let pages : pages_of (recency_after w passes).shape ≡ pages_of w.shape = ap pages_of kept.shape in
@@ -153,9 +153,9 @@ pub read_partly : (s : Shape) (d : ℕ) (batch : List Planned) (losses : List Bo
     → AreReadFor s d batch losses old new → ArePartlyReadFor s d batch old new
 read_partly s d batch losses old new each read = record {
   same = read.same;
-  at_most_once = λ tell at len. let once = (read.once tell).asked at len in omega (arith, once);
+  at_most_once = λ all_known at len. let once = (read.once all_known).asked at len in omega (arith, once);
   lost = lost_entries batch losses;
-  failed = λ tell at len. let once = (read.once tell).failed at len in omega (arith, once);
+  failed = λ all_known at len. let once = (read.once all_known).failed at len in omega (arith, once);
   faults = subst (λ n. RoseTogetherBy n (counts_of old) (counts_of new)) (sym (count_lost batch losses each)) read.faults;
 }
 
@@ -168,37 +168,37 @@ pub record HasRoom (step : WalkStep) (events : List Event) : Type 0 where
   pub reads : step.reads + length step.batch.elements < 2 ^ 64
 
 module _ (draws : Drawing)
-    (t : WalkInput) (told : Option (List ℕ)) where
+    (t : WalkInput) (known : Option (List ℕ)) where
   pub may_prepare : (run : List WalkPass) (number : ℕ) (step : WalkStep) (m : MachineState) (v : RecencyView) → IsWalkInput t → number < 4294967296
-      → MayDraw (given_of draws t told) run number step m v → MayPrepare m step.batch.elements
+      → MayTakeStep (given_of draws t known) run number step m v → MayPrepare m step.batch.elements
   may_prepare run number step m v input below may =
-      let g = given_of draws t told in
+      let g = given_of draws t known in
       let h = may.given.setup in
       let kept = run_kept g.setup run h may.at_run.is_run in
       let short = journal_short g.setup run input.settings.crew.few_entries may.at_run.is_run in
       let planned : length step.batch.elements ≤ t.settings.crew.batch = omega (arith, ap length may.step.batch, plan_most g.setup run) in
       let early : length (journal_after g.setup run) ≤ last_start = omega (arith, short, may.step.number_is, below, h.enough_frames, h.most_frames) in
-      prepare_of m (machine_of g) (journal_after g.setup run) step.batch.elements may.at_run.setup may.at_run.journal (root_mapped g.setup run h may.at_run.is_run)
+      prepare_of m (setup_of_walk g) (journal_after g.setup run) step.batch.elements may.at_run.setup may.at_run.journal (root_mapped g.setup run h may.at_run.is_run)
       (batch_may_be_run g.setup run step.batch.elements may.at_run.is_run kept may.step.batch) planned early
 
   pub recency_shape : (run : List WalkPass) (number : ℕ) (step : WalkStep) (m : MachineState) (v : RecencyView)
-      → MayDraw (given_of draws t told) run number step m v → v.shape ≡ t.geometry.now
+      → MayTakeStep (given_of draws t known) run number step m v → v.shape ≡ t.geometry.now
   recency_shape run number step m v may =
       ap (λ (x : RecencyView). x.shape) may.at_run.recency
-      ∙ (run_kept (given_of draws t told).setup run may.given.setup may.at_run.is_run).shape
+      ∙ (run_kept (given_of draws t known).setup run may.given.setup may.at_run.is_run).shape
 
   pub turn_lawful : (run : List WalkPass) (number : ℕ) (step : WalkStep) (m : MachineState) (v : RecencyView)
-      → MayDraw (given_of draws t told) run number step m v → IsLawful v step.batch.elements
+      → MayTakeStep (given_of draws t known) run number step m v → IsLawfulBatch v step.batch.elements
   turn_lawful run number step m v may =
-      let w = (given_of draws t told).setup in
-      subst (λ (x : RecencyView). IsLawful x step.batch.elements) (sym may.at_run.recency)
+      let w = (given_of draws t known).setup in
+      subst (λ (x : RecencyView). IsLawfulBatch x step.batch.elements) (sym may.at_run.recency)
       (batch_is_lawful w run step.batch.elements may.at_run.is_run (run_kept w run may.given.setup may.at_run.is_run) may.step.batch)
 
   pub has_room : (run : List WalkPass) (number : ℕ) (step : WalkStep) (m : MachineState) (v : RecencyView) (losses : List Bool) (events : List Event)
       → IsWalkInput t → number < 4294967296
-      → MayDraw (given_of draws t told) run number step m v → IsOutcome step.batch.elements losses events → HasRoom step events
+      → MayTakeStep (given_of draws t known) run number step m v → IsOutcome step.batch.elements losses events → HasRoom step events
   has_room run number step m v losses events input below may outcome =
-      let w = (given_of draws t told).setup in
+      let w = (given_of draws t known).setup in
       let h = may.given.setup in
       let few = input.settings.crew.few_entries in
       let is_run = may.at_run.is_run in
@@ -217,7 +217,7 @@ module _ (draws : Drawing)
       }
 
   -- the job of a step is one for its machine
-  pub is_job : (run : List WalkPass) (number : ℕ) (step : WalkStep) (m : MachineState) (v : RecencyView) → MayDraw (given_of draws t told) run number step m v
+  pub is_job : (run : List WalkPass) (number : ℕ) (step : WalkStep) (m : MachineState) (v : RecencyView) → MayTakeStep (given_of draws t known) run number step m v
       → IsJobFor m.setup (record { scene = input_scene t; picture = step.picture; batch = step.batch.elements })
   is_job run number step m v may =
       let job : Job = record { scene = input_scene t; picture = step.picture; batch = step.batch.elements } in
@@ -227,16 +227,16 @@ module _ (draws : Drawing)
   -- a pass that was run was read for
   pub read_at_most : (drawn : PathView → ℕ → ℕ → ℕ → List ℕ → Type 0) (run : List WalkPass) (number : ℕ) (step : WalkStep)
       (m after : MachineState) (v : RecencyView) (report : PassReport)
-      → MayDraw (given_of draws t told) run number step m v
+      → MayTakeStep (given_of draws t known) run number step m v
       → Ran draws drawn (record { scene = input_scene t; picture = step.picture; batch = step.batch.elements }) report m after
       → ArePartlyReadFor t.geometry.now t.depth step.batch.elements m.files after.files
   read_at_most drawn run number step m after v report may ran =
-      read_partly t.geometry.now t.depth step.batch.elements report.losses.elements m.files after.files ran.outcome.told
+      read_partly t.geometry.now t.depth step.batch.elements report.losses.elements m.files after.files ran.outcome.reported
       (subst (λ (x : Setup). AreReadFor x.shape x.depth step.batch.elements report.losses.elements m.files after.files) may.at_run.setup ran.read)
 
   -- so was one that was refused memory
   pub read_broken : (run : List WalkPass) (number : ℕ) (step : WalkStep) (m after : MachineState) (v : RecencyView)
-      → MayDraw (given_of draws t told) run number step m v
+      → MayTakeStep (given_of draws t known) run number step m v
       → Broke (record { scene = input_scene t; picture = step.picture; batch = step.batch.elements }) m after
       → ArePartlyReadFor t.geometry.now t.depth step.batch.elements m.files after.files
   read_broken run number step m after v may broke =
@@ -245,46 +245,46 @@ module _ (draws : Drawing)
   -- however its run ended
   pub read_ended : (drawn : PathView → ℕ → ℕ → ℕ → List ℕ → Type 0) (idle : Type 0) (run : List WalkPass) (number : ℕ) (step : WalkStep)
       (m after : MachineState) (v : RecencyView) (result : Result PassReport NoMemory)
-      → MayDraw (given_of draws t told) run number step m v
-      → Ends draws drawn idle (record { scene = input_scene t; picture = step.picture; batch = step.batch.elements }) result m after
+      → MayTakeStep (given_of draws t known) run number step m v
+      → EndsPassRun draws drawn idle (record { scene = input_scene t; picture = step.picture; batch = step.batch.elements }) result m after
       → ArePartlyReadFor t.geometry.now t.depth step.batch.elements m.files after.files
   read_ended drawn idle run number step m after v (Ok report) may ends = read_at_most drawn run number step m after v report may ends.ran
   read_ended drawn idle run number step m after v (Err refusal) may ends = read_broken run number step m after v may ends.broke
 
   pub has_drawn : (drawn : PictureDrawn) (run : List WalkPass) (number start : ℕ) (step : WalkStep)
       (m after : MachineState)
-      (v v' : RecencyView) (counts : List ℕ) (report : PassReport) (o : Outlook) (d : Drawn)
-      → HasRunStep drawn (given_of draws t told) run number step start report m after v
+      (v v' : RecencyView) (counts : List ℕ) (report : PassReport) (o : NextPlan) (d : Drawn)
+      → HasRunStep drawn (given_of draws t known) run number step start report m after v
       → counts ≡ after.counts
       → IsOutlook t.geometry.now (slice_index counts) t.settings.crew.batch v step.batch.elements report.losses.elements v' o
       → IsReported number step start report o d → HasDrawnPass drawn
-      (given_of draws t told) run step m after v' d
-  has_drawn drawn run number start step m after v v' counts report o d made counts_are_its outlook reported =
+      (given_of draws t known) run step m after v' d
+  has_drawn drawn run number start step m after v v' counts report o d made counts_are_its next_plan reported =
       let may = made.may in
       let ran = made.ran in
-      let g = given_of draws t told in
+      let g = given_of draws t known in
       let job : Job = record { scene = input_scene t; picture = step.picture; batch = step.batch.elements } in
-      let setup : after.setup ≡ machine_of g = ran.setup ∙ may.at_run.setup in
+      let setup : after.setup ≡ setup_of_walk g = ran.setup ∙ may.at_run.setup in
       let pages : pages_of t.geometry.now ≡ pages_of after.setup.shape = ap (λ (x : Setup). pages_of x.shape) (sym setup) in
       let same : (p : ℕ) → p < pages_of t.geometry.now → slice_index counts p ≡ draws.needs (input_scene t) step.picture p =
       λ p inside. ap (λ (x : List ℕ). slice_index x p) counts_are_its ∙ ran.picture.counts_are p (omega (arith, inside, pages)) in
-      let wanted = wants_for t.geometry.now (slice_index counts) (draws.needs (input_scene t) step.picture) outlook.wants same outlook.wanted in
-      let settles = subst (λ (x : RecencyView). IsSettled x (read_entries step.batch.elements report.losses.elements) outlook.settled) may.at_run.recency
-      outlook.settles in
-      let pass : WalkPass = pass_of job report outlook.wants outlook.settled in
-      let next = comes_next draws AnyRow g.setup run job report outlook.wants outlook.settled m after ran refl
+      let wanted = wants_for t.geometry.now (slice_index counts) (draws.needs (input_scene t) step.picture) next_plan.wants same next_plan.wanted in
+      let settles = subst (λ (x : RecencyView). IsSettledByReads x (read_entries step.batch.elements report.losses.elements) next_plan.settled) may.at_run.recency
+      next_plan.settles in
+      let pass : WalkPass = walk_pass_of job report next_plan.wants next_plan.settled in
+      let next = comes_next draws AnyRow g.setup run job report next_plan.wants next_plan.settled m after ran refl
       (ap (λ (x : Setup). x.crew.samplers) (sym may.at_run.setup))
       (ap (λ (x : Setup). x.height) (sym may.at_run.setup)) may.at_run.journal may.step.step may.more may.step.batch wanted settles in
       record {
-        pass = pass_of job report outlook.wants outlook.settled;
+        pass = walk_pass_of job report next_plan.wants next_plan.settled;
         next = next;
         picture = refl;
         batch = refl;
         at_run = record {
           is_run = (may.at_run.is_run, next);
           setup = setup;
-          journal = journal_grown draws AnyRow g.setup run job report outlook.wants outlook.settled m after ran may.at_run.journal;
-          recency = outlook.after_is;
+          journal = journal_grown draws AnyRow g.setup run job report next_plan.wants next_plan.settled m after ran may.at_run.journal;
+          recency = next_plan.after_is;
         };
         read = subst (λ (x : Setup). AreReadFor x.shape x.depth step.batch.elements report.losses.elements m.files after.files) may.at_run.setup ran.read;
         has_run = record { before = m; report = report; setup = may.at_run.setup; journal = may.at_run.journal; ran = ran; by = made.by; rows_are = refl };
@@ -300,35 +300,35 @@ module _ (draws : Drawing)
           inside = may.more;
           loads_nothing = reported.loads_nothing;
           lost = reported.lost;
-          wanted = ap (λ (x : Outlook). x.wanted) reported.outlook ∙ outlook.count;
-          needed = ap (λ (x : Outlook). x.needed) reported.outlook ∙ outlook.needed_are
-              ∙ ap (λ (x : RecencyView). pages_needed x outlook.wants) outlook.after_is;
-          plan = ap (λ (x : Outlook). x.plan.elements) reported.outlook ∙ outlook.plan_is
-              ∙ ap (λ (x : RecencyView). plan_of x outlook.wants t.settings.crew.batch) outlook.after_is;
-          tally = reported.tally ∙ ap (with_pass report.events.elements) may.step.tally ∙ tally_more (pass_of job report outlook.wants outlook.settled) run;
+          wanted = ap (λ (x : NextPlan). x.wanted) reported.next_plan ∙ next_plan.count;
+          needed = ap (λ (x : NextPlan). x.needed) reported.next_plan ∙ next_plan.needed_are
+              ∙ ap (λ (x : RecencyView). pages_needed x next_plan.wants) next_plan.after_is;
+          plan = ap (λ (x : NextPlan). x.plan.elements) reported.next_plan ∙ next_plan.plan_is
+              ∙ ap (λ (x : RecencyView). plan_of x next_plan.wants t.settings.crew.batch) next_plan.after_is;
+          tally = reported.tally ∙ ap (with_pass report.events.elements) may.step.tally ∙ tally_more (walk_pass_of job report next_plan.wants next_plan.settled) run;
           reads = reported.reads ∙ ap (λ n. n + length step.batch.elements) may.step.reads
-              ∙ sym (reads_more g.setup (pass_of job report outlook.wants outlook.settled) run);
+              ∙ sym (reads_more g.setup (walk_pass_of job report next_plan.wants next_plan.settled) run);
         };
       }
 
   -- the events that its text tells are in the chain
-  pub told_in_chain : (drawn : PictureDrawn) (run : List WalkPass) (number : ℕ) (step : WalkStep) (m after : MachineState)
+  pub journaled_in_chain : (drawn : PictureDrawn) (run : List WalkPass) (number : ℕ) (step : WalkStep) (m after : MachineState)
       (v v' : RecencyView) (d : Drawn)
-      → MayDraw (given_of draws t told) run number step m v
-      → HasDrawnPass drawn (given_of draws t told) run step m after v' d
+      → MayTakeStep (given_of draws t known) run number step m v
+      → HasDrawnPass drawn (given_of draws t known) run step m after v' d
       → All (IsEventInChain t.geometry.now) d.text.events.elements
-  told_in_chain drawn run number step m after v v' d may has =
+  journaled_in_chain drawn run number step m after v v' d may has =
       subst (All (IsEventInChain t.geometry.now)) (sym (ap (λ (x : Pass). x.events) has.text))
-      (events_in_chain (given_of draws t told).setup run has.pass may.given.setup may.at_run.is_run has.next)
+      (events_in_chain (given_of draws t known).setup run has.pass may.given.setup may.at_run.is_run has.next)
 
   -- there is room for the versions that its text tells
-  pub told_have_room : (drawn : PictureDrawn) (run : List WalkPass) (number : ℕ) (step : WalkStep) (m after : MachineState)
+  pub journaled_have_room : (drawn : PictureDrawn) (run : List WalkPass) (number : ℕ) (step : WalkStep) (m after : MachineState)
       (v v' : RecencyView) (d : Drawn)
-      → IsWalkInput t → number < 4294967296 → MayDraw (given_of draws t told) run number step m v
-      → HasDrawnPass drawn (given_of draws t told) run step m after v' d
+      → IsWalkInput t → number < 4294967296 → MayTakeStep (given_of draws t known) run number step m v
+      → HasDrawnPass drawn (given_of draws t known) run step m after v' d
       → d.text.start + length d.text.events.elements ≤ most_versions
-  told_have_room drawn run number step m after v v' d input below may has =
-      let w = (given_of draws t told).setup in
+  journaled_have_room drawn run number step m after v v' d input below may has =
+      let w = (given_of draws t known).setup in
       let h = may.given.setup in
       let few = input.settings.crew.few_entries in
       let start : d.text.start ≡ length (journal_after w run) = ap (λ (x : Pass). x.start) has.text in

@@ -1,4 +1,4 @@
--- A walk whose next pass was run or drawn before it is told.
+-- A walk whose next pass was run or drawn before it is journaled.
 use Rattle.std.proofs.Common.{◌≡◌, ℕ, ◌-◌, inl, inr, List, ◌∷◌, Option, refl, sym, ◌∙◌, subst, arith}
 use Rattle.vt_outside.specs.Files.{Files, Asked}
 use Rattle.vt_evict.specs.PlanTypes.batches.Planned.{Planned}
@@ -16,7 +16,7 @@ use Rattle.vt_walk.specs.Counts.{HasCounts}
 use Rattle.vt_walk.specs.Runs.{WalkPass}
 use Rattle.vt_walk.specs.Walks.{WalkGiven}
 use Rattle.vt_walk.specs.States.{WalkState}
-use Rattle.vt_walk.specs.WalkSteps.{StandsAt, HasDrawnPass, LeftByRefusal}
+use Rattle.vt_walk.specs.WalkSteps.{StandsAtStep, HasDrawnPass, LeftByRefusal}
 use Rattle.vt_walk.specs.Following.{MayStep, DrawsNext, StandsEnd, StandsNext}
 use Rattle.vt_walk.proofs.Advancing.{read_partly}
 use Rattle.vt_walk.proofs.Passing.{state_of, pass_broke}
@@ -24,12 +24,12 @@ use Rattle.vt_walk.proofs.Rounds.{is_whole}
 
 module _ (drawn : PictureDrawn) (g : WalkGiven) (first : WalkState) where
   -- the next pass is at its step, if there is one
-  pub may_turn : (number : ℕ) (t : WalkStep) (now : WalkState) (m : MachineState) (v : RecencyView) → (s : StandsAt drawn g number t first now m v)
+  pub may_turn : (number : ℕ) (t : WalkStep) (now : WalkState) (m : MachineState) (v : RecencyView) → (s : StandsAtStep drawn g number t first now m v)
       → MayStep g s.run number t m v
   may_turn number t now m v s = record { given = s.given; at_run = s.at_run; step = s.step }
 
   -- a run is whole
-  end_stands : (number reads : ℕ) (t : WalkStep) (now : WalkState) (m : MachineState) (v : RecencyView) → StandsAt drawn g number t first now m v
+  end_stands : (number reads : ℕ) (t : WalkStep) (now : WalkState) (m : MachineState) (v : RecencyView) → StandsAtStep drawn g number t first now m v
       → t.picture ≡ g.setup.pictures → reads ≡ t.reads → StandsEnd drawn g number reads first now
   end_stands number reads t now m v s all are = record {
     last = record {
@@ -46,7 +46,7 @@ module _ (drawn : PictureDrawn) (g : WalkGiven) (first : WalkState) where
 
   -- the next pass was drawn, if there is one
   pub next_stands : (number : ℕ) (t : WalkStep) (at : List FileState → WalkState) (m n : MachineState) (v u : RecencyView)
-      → (s : StandsAt drawn g number t first (at m.files) m v) → (x : Next) → DrawsNext drawn g s.run t m n u x
+      → (s : StandsAtStep drawn g number t first (at m.files) m v) → (x : Next) → DrawsNext drawn g s.run t m n u x
       → StandsNext drawn g number x first at n u
   next_stands number t at m n v u s (next.Pass d) is =
       record { step = t; before = m; recency = v; stands = s; more = is.0; has_drawn = is.1 }
@@ -70,9 +70,9 @@ module _ (drawn : PictureDrawn) (g : WalkGiven) (first : WalkState) where
       → ArePartlyReadFor g.scene.shape g.scene.depth t.batch.elements m.files n.files
   drawn_read t m n u run d h =
       subst (λ (batch : List Planned). ArePartlyReadFor g.scene.shape g.scene.depth batch m.files n.files) h.batch
-      (read_partly g.scene.shape g.scene.depth h.pass.batch h.pass.losses m.files n.files h.next.outcome.told h.read)
+      (read_partly g.scene.shape g.scene.depth h.pass.batch h.pass.losses m.files n.files h.next.outcome.reported h.read)
 
-  -- the walk ends before a pass that was drawn is told
+  -- the walk ends before a pass that was drawn is journaled
   pub next_left : (number : ℕ) (x : Next) (store : List ℕ) (kept : FileState) (held : Option (List ℕ)) (out_faults : ℕ) (files : Option Files)
       (asked : Option Asked) (faults : ℕ) (m : MachineState) (v : RecencyView)
       → StandsNext drawn g number x first (λ opened. state_of files asked faults store (kept ∷ opened) held out_faults) m v

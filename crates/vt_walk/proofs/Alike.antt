@@ -16,29 +16,29 @@ use Rattle.vt_walk.specs.Runs.{WalkPass, plan_after, planned_in, lost_in}
 use Rattle.vt_walk.specs.Logs.{picture_line}
 use Rattle.vt_walk.specs.Walks.{WalkGiven}
 use Rattle.vt_walk.specs.States.{WalkState}
-use Rattle.vt_walk.specs.Reads.{AreAskedFor, AreAskedAtMostFor, OnTold, lost_reads}
+use Rattle.vt_walk.specs.Reads.{AreAskedFor, AreAskedAtMostFor, OnKnown, lost_reads}
 use Rattle.vt_walk.specs.Standing.{Stands, Finished}
 use Rattle.vt_walk.specs.Leaving.{AsksNothing, AsksForNext, AsksAhead, LeftAtHead, IsWalkPrefix, LeftInRun, Left}
 use Rattle.vt_walk.specs.Causes.{reads_lost, HasFailed, IsCausedBy}
 use Rattle.vt_walk.specs.WalkSteps.{LeftByRefusal}
-use Rattle.vt_walk.proofs.Asks.{told_twice}
+use Rattle.vt_walk.proofs.Asks.{known_twice}
 use Rattle.vt_walk.proofs.Placed.{same_sum}
 use Rattle.vt_walk.proofs.Closings.{AreSamePlaces, IsAlike}
 
 -- as much was asked
-still_asked : (s : Shape) (d pinned : ℕ) (planned lost : List Planned) (a b c : Option (List Place)) → OnTold (AreAskedFor s d pinned planned lost) a b
-    → OnTold AreSamePlaces b c → OnTold (AreAskedFor s d pinned planned lost) a c
+still_asked : (s : Shape) (d pinned : ℕ) (planned lost : List Planned) (a b c : Option (List Place)) → OnKnown (AreAskedFor s d pinned planned lost) a b
+    → OnKnown AreSamePlaces b c → OnKnown (AreAskedFor s d pinned planned lost) a c
 still_asked s d pinned planned lost a b c asked same =
-    told_twice (AreAskedFor s d pinned planned lost) AreSamePlaces (AreAskedFor s d pinned planned lost) a b c
+    known_twice (AreAskedFor s d pinned planned lost) AreSamePlaces (AreAskedFor s d pinned planned lost) a b c
     (λ x y z first then. record {
       asked = λ at len. then.asked at len ∙ first.asked at len;
       failed = λ at len. then.failed at len ∙ first.failed at len;
     }) asked same
 
-still_at_most : (s : Shape) (d pinned : ℕ) (planned : List Planned) (a b c : Option (List Place)) → OnTold (AreAskedAtMostFor s d pinned planned) a b
-    → OnTold AreSamePlaces b c → OnTold (AreAskedAtMostFor s d pinned planned) a c
+still_at_most : (s : Shape) (d pinned : ℕ) (planned : List Planned) (a b c : Option (List Place)) → OnKnown (AreAskedAtMostFor s d pinned planned) a b
+    → OnKnown AreSamePlaces b c → OnKnown (AreAskedAtMostFor s d pinned planned) a c
 still_at_most s d pinned planned a b c asked same =
-    told_twice (AreAskedAtMostFor s d pinned planned) AreSamePlaces (AreAskedAtMostFor s d pinned planned) a b c
+    known_twice (AreAskedAtMostFor s d pinned planned) AreSamePlaces (AreAskedAtMostFor s d pinned planned) a b c
     (λ x y z first then at len. omega (arith, then.asked at len, first at len)) asked same
 
 module _ (drawn : PictureDrawn) (g : WalkGiven) (first mid last : WalkState) (alike : IsAlike mid last) where
@@ -66,7 +66,7 @@ module _ (drawn : PictureDrawn) (g : WalkGiven) (first mid last : WalkState) (al
     reached = s.reached;
     written = s.written;
     files = λ apart. alike.files ∙ s.files apart;
-    there = subst (λ told. IsThere told g.names.journal) (sym alike.files) s.there;
+    there = subst (λ known. IsThere known g.names.journal) (sym alike.files) s.there;
     held = alike.held ∙ s.held;
     asked = still_asked _ _ _ _ _ first.asked mid.asked last.asked s.asked alike.asked;
     faults = let most = s.faults in let more = alike.faults in omega (arith, most, more);
@@ -102,7 +102,7 @@ module _ (drawn : PictureDrawn) (g : WalkGiven) (first mid last : WalkState) (al
     files = s.files;
     there = s.there;
     held = s.held;
-    asked = still_asked _ _ _ _ _ first.asked mid.asked last.asked (subst (λ (o : Option (List Place)). OnTold
+    asked = still_asked _ _ _ _ _ first.asked mid.asked last.asked (subst (λ (o : Option (List Place)). OnKnown
         (AreAskedFor g.scene.shape g.scene.depth g.setup.pinned (planned_in run) (lost_in run)) first.asked o) (sym n.asked) s.asked) alike.asked;
     faults = s.faults;
     out_faults = s.out_faults;
@@ -197,8 +197,8 @@ module _ (drawn : PictureDrawn) (g : WalkGiven) (first mid last : WalkState) (al
           finished = l.finished;
           bytes = l.bytes;
           written = l.written;
-          files = subst (λ (told : Option Files). (last.files ≡ told) ⊎ ((k : ℕ)
-              × (last.files ≡ option_map (with_bytes (picture_name g.names.prefix (length pictures)) (take k l.bytes)) told)))
+          files = subst (λ (known : Option Files). (last.files ≡ known) ⊎ ((k : ℕ)
+              × (last.files ≡ option_map (with_bytes (picture_name g.names.prefix (length pictures)) (take k l.bytes)) known)))
               (sym m.2) (elim l.files [ inl none ↦ inl (alike.files ∙ none) | inr (k, part) ↦ inr (k, alike.files ∙ part) ]);
           held = alike.held ∙ l.held ∙ sym m.3;
           ahead = m.4;
@@ -246,7 +246,7 @@ module _ (drawn : PictureDrawn) (g : WalkGiven) (first mid last : WalkState) (al
       (pages_of s - pinned)
       (λ p below. same.failed (tile_start s d p) (tile_length s d))
 
-  reads_alike : (a b c : Option (List Place)) → OnTold AreSamePlaces b c → reads_lost g a c ≡ reads_lost g a b
+  reads_alike : (a b c : Option (List Place)) → OnKnown AreSamePlaces b c → reads_lost g a c ≡ reads_lost g a b
   reads_alike None None None same = refl
   reads_alike (Some a) None None same = refl
   reads_alike None (Some b) (Some c) same = refl

@@ -26,7 +26,7 @@ either_first n m s t files other = fun_ext (λ q. pick q (bytes_eq q n) (bytes_e
   pick q false b is_n is_m = rw is_n refl
 
 -- a name that is there stays so
-pub there_stays : (n m s : List ℕ) (told : Option Files) → IsThere told n → IsThere (option_map (with_bytes m s) told) n
+pub there_stays : (n m s : List ℕ) (known : Option Files) → IsThere known n → IsThere (option_map (with_bytes m s) known) n
 there_stays n m s None there = tt
 there_stays n m s (Some files) there = pick (bytes_eq n m) there where
   pick : (b : Bool) → IsSome (files n) → IsSome (if b then Some s else files n)

@@ -7,7 +7,7 @@ use Rattle.vt_evict.specs.PlanTypes.batches.Planned.{Planned}
 use Rattle.vt_walk_decisions.specs.Outcomes.{lost_count}
 use Rattle.vt_walk_decisions.specs.Requests.{is_tile_at, times_planned, lost_entries}
 use Rattle.vt_walk.specs.Fits.{WalkSetup}
-use Rattle.vt_walk.specs.Runs.{WalkPass, IsRun, planned_in, lost_in}
+use Rattle.vt_walk.specs.Runs.{WalkPass, IsWalkRun, planned_in, lost_in}
 use Rattle.vt_walk.specs.Logs.{reads_of}
 
 pub count_both : {X : Type 0} (t : X → Bool) (xs ys : List X) → count_by t (xs ++ ys) ≡ count_by t xs + count_by t ys
@@ -35,9 +35,9 @@ kept_lost (e ∷ batch) (false ∷ losses) same = kept_lost batch losses (omega 
 pub count_lost : (batch : List Planned) (losses : List Bool) → length losses ≡ length batch → length (lost_entries batch losses) ≡ lost_count losses
 count_lost batch losses same = kept_lost batch losses same ∙ length-filter (λ l. l) losses
 
-pub losses_more : (w : WalkSetup) (p : WalkPass) (passes : List WalkPass) → IsRun w (p ∷ passes)
+pub losses_more : (w : WalkSetup) (p : WalkPass) (passes : List WalkPass) → IsWalkRun w (p ∷ passes)
     → length (lost_in (p ∷ passes)) ≡ lost_count p.losses + length (lost_in passes)
-losses_more w p passes run = omega (arith, length-append (lost_entries p.batch p.losses) (lost_in passes), count_lost p.batch p.losses run.1.outcome.told)
+losses_more w p passes run = omega (arith, length-append (lost_entries p.batch p.losses) (lost_in passes), count_lost p.batch p.losses run.1.outcome.reported)
 
 pub reads_more : (w : WalkSetup) (p : WalkPass) (passes : List WalkPass) → reads_of w (p ∷ passes) ≡ reads_of w passes + length p.batch
 reads_more w p passes = omega (arith, length-append p.batch (planned_in passes))

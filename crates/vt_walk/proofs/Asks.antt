@@ -13,34 +13,34 @@ use Rattle.vt_outside.specs.Places.{times_asked, times_failed, is_read_of}
 use Rattle.vt_outside.specs.declared.place.Place.{Place}
 use Rattle.vt_pages.specs.Shape.{Shape}
 use Rattle.vt_evict.specs.PlanTypes.batches.Planned.{Planned}
-use Rattle.vt_walk_decisions.specs.Requests.{FileState, AllTell, AreReadFor, ArePartlyReadFor, times_asked_by, times_failed_by, lost_entries}
-use Rattle.vt_walk.specs.Reads.{AreAskedFor, AreAskedAtMostFor, OnTold}
+use Rattle.vt_walk_decisions.specs.Requests.{FileState, AllKnown, AreReadFor, ArePartlyReadFor, times_asked_by, times_failed_by, lost_entries}
+use Rattle.vt_walk.specs.Reads.{AreAskedFor, AreAskedAtMostFor, OnKnown}
 use Rattle.vt_walk.specs.States.{places_of}
 use Rattle.vt_walk.proofs.Asking.{count_both}
 use Rattle.vt_walk.proofs.LostReads.{FailsAtMostFor}
 
 -- two steps are one
-pub told_twice : (P Q R : List Place → List Place → Type 0) (a b c : Option (List Place)) → ((x y z : List Place) → P x y → Q y z → R x z)
-    → OnTold P a b → OnTold Q b c → OnTold R a c
-told_twice P Q R None None None both p q = tt
-told_twice P Q R (Some x) (Some y) (Some z) both p q = both x y z p q
-told_twice P Q R None None (Some z) both p q = absurd q
-told_twice P Q R None (Some y) c both p q = absurd p
-told_twice P Q R (Some x) None c both p q = absurd p
-told_twice P Q R (Some x) (Some y) None both p q = absurd q
+pub known_twice : (P Q R : List Place → List Place → Type 0) (a b c : Option (List Place)) → ((x y z : List Place) → P x y → Q y z → R x z)
+    → OnKnown P a b → OnKnown Q b c → OnKnown R a c
+known_twice P Q R None None None both p q = tt
+known_twice P Q R (Some x) (Some y) (Some z) both p q = both x y z p q
+known_twice P Q R None None (Some z) both p q = absurd q
+known_twice P Q R None (Some y) c both p q = absurd p
+known_twice P Q R (Some x) None c both p q = absurd p
+known_twice P Q R (Some x) (Some y) None both p q = absurd q
 
 -- what holds of the same places twice
-pub told_same : (P : List Place → List Place → Type 0) (told now : Option (List Place)) → now ≡ told → ((places : List Place) → P places places)
-    → OnTold P told now
-told_same P None now is same = subst (OnTold P None) (sym is) tt
-told_same P (Some places) now is same = subst (OnTold P (Some places)) (sym is) (same places)
+pub known_same : (P : List Place → List Place → Type 0) (known now : Option (List Place)) → now ≡ known → ((places : List Place) → P places places)
+    → OnKnown P known now
+known_same P None now is same = subst (OnKnown P None) (sym is) tt
+known_same P (Some places) now is same = subst (OnKnown P (Some places)) (sym is) (same places)
 
 -- the same of each place
-pub told_more : (P R : List Place → List Place → Type 0) (a b : Option (List Place)) → ((x y : List Place) → P x y → R x y) → OnTold P a b → OnTold R a b
-told_more P R None None more p = tt
-told_more P R (Some x) (Some y) more p = more x y p
-told_more P R None (Some y) more p = absurd p
-told_more P R (Some x) None more p = absurd p
+pub known_more : (P R : List Place → List Place → Type 0) (a b : Option (List Place)) → ((x y : List Place) → P x y → R x y) → OnKnown P a b → OnKnown R a b
+known_more P R None None more p = tt
+known_more P R (Some x) (Some y) more p = more x y p
+known_more P R None (Some y) more p = absurd p
+known_more P R (Some x) None more p = absurd p
 
 times_in : (t : Place → Bool) (files : List FileState) → count_by t (places_of files) ≡ sum_by (λ (f : FileState). count_by t (unwrap_or f.asked [])) files
 times_in t [] = refl
@@ -78,11 +78,11 @@ with_open store files asked = option_map (λ (places : Asked). places store ++ p
 -- a pass has asked for its batch
 pub pass_asks : (s : Shape) (d : ℕ) (batch : List Planned) (losses : List Bool) (store : List ℕ) (kept : FileState) (old new : List FileState)
     (asked : Option Asked)
-    → (IsSome (with_open store (kept ∷ old) asked) → AllTell old) → AreReadFor s d batch losses old new
-    → OnTold (AreAskedFor s d 0 batch (lost_entries batch losses)) (with_open store (kept ∷ old) asked) (with_open store (kept ∷ new) asked)
-pass_asks s d batch losses store kept old new None tell read = tt
-pass_asks s d batch losses store kept old new (Some places) tell read =
-    let once = read.once (tell refl) in
+    → (IsSome (with_open store (kept ∷ old) asked) → AllKnown old) → AreReadFor s d batch losses old new
+    → OnKnown (AreAskedFor s d 0 batch (lost_entries batch losses)) (with_open store (kept ∷ old) asked) (with_open store (kept ∷ new) asked)
+pass_asks s d batch losses store kept old new None all_known read = tt
+pass_asks s d batch losses store kept old new (Some places) all_known read =
+    let once = read.once (all_known refl) in
     record {
       asked = λ at len. omega (
         arith,
@@ -106,11 +106,11 @@ pass_asks s d batch losses store kept old new (Some places) tell read =
 
 -- a pass has asked for its batch at most
 pub pass_asks_most : (s : Shape) (d : ℕ) (batch : List Planned) (store : List ℕ) (kept : FileState) (old new : List FileState) (asked : Option Asked)
-    → (IsSome (with_open store (kept ∷ old) asked) → AllTell old) → ArePartlyReadFor s d batch old new
-    → OnTold (AreAskedAtMostFor s d 0 batch) (with_open store (kept ∷ old) asked) (with_open store (kept ∷ new) asked)
-pass_asks_most s d batch store kept old new None tell read = tt
-pass_asks_most s d batch store kept old new (Some places) tell read =
-    let most = read.at_most_once (tell refl) in
+    → (IsSome (with_open store (kept ∷ old) asked) → AllKnown old) → ArePartlyReadFor s d batch old new
+    → OnKnown (AreAskedAtMostFor s d 0 batch) (with_open store (kept ∷ old) asked) (with_open store (kept ∷ new) asked)
+pass_asks_most s d batch store kept old new None all_known read = tt
+pass_asks_most s d batch store kept old new (Some places) all_known read =
+    let most = read.at_most_once (all_known refl) in
     λ at len. omega (
       arith,
       times_with at len (places store) (kept ∷ old),
@@ -122,11 +122,11 @@ pass_asks_most s d batch store kept old new (Some places) tell read =
 
 -- no more reads of a pass failed than those of some entries
 pub pass_fails_most : (s : Shape) (d : ℕ) (batch : List Planned) (store : List ℕ) (kept : FileState) (old new : List FileState) (asked : Option Asked)
-    → (IsSome (with_open store (kept ∷ old) asked) → AllTell old) → (read : ArePartlyReadFor s d batch old new)
-    → OnTold (FailsAtMostFor s d read.lost) (with_open store (kept ∷ old) asked) (with_open store (kept ∷ new) asked)
-pass_fails_most s d batch store kept old new None tell read = tt
-pass_fails_most s d batch store kept old new (Some places) tell read =
-    let most = read.failed (tell refl) in
+    → (IsSome (with_open store (kept ∷ old) asked) → AllKnown old) → (read : ArePartlyReadFor s d batch old new)
+    → OnKnown (FailsAtMostFor s d read.lost) (with_open store (kept ∷ old) asked) (with_open store (kept ∷ new) asked)
+pass_fails_most s d batch store kept old new None all_known read = tt
+pass_fails_most s d batch store kept old new (Some places) all_known read =
+    let most = read.failed (all_known refl) in
     λ at len. omega (
       arith,
       failed_with at len (places store) (kept ∷ old),

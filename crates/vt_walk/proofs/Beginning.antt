@@ -19,36 +19,36 @@ use Rattle.vt_journal.specs.Changes.{Pinned}
 use Rattle.vt_journal.specs.declared.changes.Change.{Change}
 use Rattle.vt_journal.specs.JournalText.{head_text, pinned_changes}
 use Rattle.vt_tiles.specs.Format.{tile_start, tile_length}
-use Rattle.vt_tiles.specs.StoreViews.{IsStoreIfTold}
+use Rattle.vt_tiles.specs.StoreViews.{IsStoreIfKnown}
 use Rattle.vt_evict.specs.PlanTypes.batches.Planned.{Planned}
 use Rattle.vt_plan.specs.Views.{RecencyView, first_view}
 use Rattle.vt_walk_decisions.specs.Drawings.{Drawing}
-use Rattle.vt_walk_decisions.specs.Requests.{FileState, AllTell, counts_of}
+use Rattle.vt_walk_decisions.specs.Requests.{FileState, AllKnown, counts_of}
 use Rattle.vt_walk_decisions.specs.Machines.{MachineState}
 use Rattle.vt_walk_decisions.specs.declared.error.WalkError.{WalkError}
 use Rattle.vt_walk_decisions.specs.declared.input.WalkInput.{WalkInput}
-use Rattle.vt_walk_decisions.specs.Refusals.{refusal_by}
+use Rattle.vt_walk_decisions.specs.Refusals.{walk_refusal_by}
 use Rattle.vt_walk.specs.DrawnBy.{PictureDrawn}
 use Rattle.vt_walk.specs.Walks.{WalkGiven}
 use Rattle.vt_walk.specs.States.{WalkState, places_of}
-use Rattle.vt_walk.specs.Reads.{AreAskedFor, AreAskedAtMostFor, OnTold, lost_reads}
+use Rattle.vt_walk.specs.Reads.{AreAskedFor, AreAskedAtMostFor, OnKnown, lost_reads}
 use Rattle.vt_walk.specs.Placing.{with_pinned}
-use Rattle.vt_walk.specs.Beginnings.{IsBegun, AreTold}
+use Rattle.vt_walk.specs.Beginnings.{IsBegun, AreKnown}
 use Rattle.vt_walk.specs.Causes.{IsCausedBy, reads_lost}
 use Rattle.vt_walk.specs.WalkInputs.{IsWalkInput, given_of}
 use Rattle.vt_walk.specs.WalkSteps.{IsGiven, StandsFirst, LeftByRefusal}
 use Rattle.vt_walk.proofs.Asking.{count_both}
-use Rattle.vt_walk.proofs.Asks.{with_open, times_with, failed_with, asked_of, failed_of, sum-one, told_more}
+use Rattle.vt_walk.proofs.Asks.{with_open, times_with, failed_with, asked_of, failed_of, sum-one, known_more}
 use Rattle.vt_walk.proofs.Failing.{has_broken}
 use Rattle.vt_walk.proofs.Passing.{state_of}
 use Rattle.vt_walk.proofs.Steps.{gained_none}
-use Rattle.vt_walk.proofs.Telling.{run_is_pinned}
+use Rattle.vt_walk.proofs.RunContents.{run_is_pinned}
 
 -- an input whose frames are enough is a walk within its limits
 pub is_given : (draws : Drawing)
-    (t : WalkInput) (told : Option (List ℕ)) → IsWalkInput t → t.pinned ≤ t.settings.frames → IsStoreIfTold told t.geometry.now t.depth
-    → IsGiven (given_of draws t told)
-is_given draws t told h frames store = record {
+    (t : WalkInput) (known : Option (List ℕ)) → IsWalkInput t → t.pinned ≤ t.settings.frames → IsStoreIfKnown known t.geometry.now t.depth
+    → IsGiven (given_of draws t known)
+is_given draws t known h frames store = record {
   setup = record {
     limits = h.limits;
     most_frames = h.settings.frames.few;
@@ -98,12 +98,12 @@ asked_is f places is = ap (λ (o : Option (List Place)). unwrap_or o []) is
 -- what one of the open files was asked
 module _ (s : Shape) (d pinned : ℕ) (store : List ℕ) (kept now : FileState) (files : List FileState) where
   one_asks : (planned lost : List Planned) (asked : Option Asked) (a b : Option (List Place)) → kept.asked ≡ a → now.asked ≡ b → (IsSome asked → IsSome a)
-      → OnTold (AreAskedFor s d pinned planned lost) a b → OnTold (AreAskedFor s d pinned planned lost) (with_open store (kept ∷ files) asked)
+      → OnKnown (AreAskedFor s d pinned planned lost) a b → OnKnown (AreAskedFor s d pinned planned lost) (with_open store (kept ∷ files) asked)
       (with_open store (now ∷ files) asked)
-  one_asks planned lost None a b is are tell asks = tt
-  one_asks planned lost (Some places) None b is are tell asks = absurd (false≢true (tell refl))
-  one_asks planned lost (Some places) (Some x) None is are tell asks = absurd asks
-  one_asks planned lost (Some places) (Some x) (Some y) is are tell asks = record {
+  one_asks planned lost None a b is are all_known asks = tt
+  one_asks planned lost (Some places) None b is are all_known asks = absurd (false≢true (all_known refl))
+  one_asks planned lost (Some places) (Some x) None is are all_known asks = absurd asks
+  one_asks planned lost (Some places) (Some x) (Some y) is are all_known asks = record {
     asked = λ at len. omega (
       arith,
       times_with at len (places store) (kept ∷ files),
@@ -127,12 +127,12 @@ module _ (s : Shape) (d pinned : ℕ) (store : List ℕ) (kept now : FileState) 
   }
 
   one_asks_most : (planned : List Planned) (asked : Option Asked) (a b : Option (List Place)) → kept.asked ≡ a → now.asked ≡ b → (IsSome asked → IsSome a)
-      → OnTold (AreAskedAtMostFor s d pinned planned) a b → OnTold (AreAskedAtMostFor s d pinned planned) (with_open store (kept ∷ files) asked)
+      → OnKnown (AreAskedAtMostFor s d pinned planned) a b → OnKnown (AreAskedAtMostFor s d pinned planned) (with_open store (kept ∷ files) asked)
       (with_open store (now ∷ files) asked)
-  one_asks_most planned None a b is are tell asks = tt
-  one_asks_most planned (Some places) None b is are tell asks = absurd (false≢true (tell refl))
-  one_asks_most planned (Some places) (Some x) None is are tell asks = absurd asks
-  one_asks_most planned (Some places) (Some x) (Some y) is are tell asks = λ at len. omega (
+  one_asks_most planned None a b is are all_known asks = tt
+  one_asks_most planned (Some places) None b is are all_known asks = absurd (false≢true (all_known refl))
+  one_asks_most planned (Some places) (Some x) None is are all_known asks = absurd asks
+  one_asks_most planned (Some places) (Some x) (Some y) is are all_known asks = λ at len. omega (
     arith,
     times_with at len (places store) (kept ∷ files),
     times_with at len (places store) (now ∷ files),
@@ -147,11 +147,11 @@ module _ (s : Shape) (d pinned : ℕ) (store : List ℕ) (kept now : FileState) 
   IsLostAlike old new = lost_reads s d pinned new ≡ lost_reads s d pinned old
 
   one_loses : (asked : Option Asked) (a b : Option (List Place)) → kept.asked ≡ a → now.asked ≡ b → (IsSome asked → IsSome a)
-      → OnTold IsLostAlike a b → OnTold IsLostAlike (with_open store (kept ∷ files) asked) (with_open store (now ∷ files) asked)
-  one_loses None a b is are tell same = tt
-  one_loses (Some places) None b is are tell same = absurd (false≢true (tell refl))
-  one_loses (Some places) (Some x) None is are tell same = absurd same
-  one_loses (Some places) (Some x) (Some y) is are tell same = omega (
+      → OnKnown IsLostAlike a b → OnKnown IsLostAlike (with_open store (kept ∷ files) asked) (with_open store (now ∷ files) asked)
+  one_loses None a b is are all_known same = tt
+  one_loses (Some places) None b is are all_known same = absurd (false≢true (all_known refl))
+  one_loses (Some places) (Some x) None is are all_known same = absurd same
+  one_loses (Some places) (Some x) (Some y) is are all_known same = omega (
     arith,
     lost_with s d pinned (places store) kept files,
     lost_with s d pinned (places store) now files,
@@ -160,7 +160,7 @@ module _ (s : Shape) (d pinned : ℕ) (store : List ℕ) (kept now : FileState) 
     same,
   )
 
-none_lost : (g : WalkGiven) (a b : Option (List Place)) → OnTold
+none_lost : (g : WalkGiven) (a b : Option (List Place)) → OnKnown
     (λ old new. lost_reads g.scene.shape g.scene.depth g.setup.pinned new ≡ lost_reads g.scene.shape g.scene.depth g.setup.pinned old) a b
     → reads_lost g a b ≡ 0
 none_lost g None None same = refl
@@ -169,20 +169,20 @@ none_lost g (Some a) None same = absurd same
 none_lost g (Some a) (Some b) same = omega (arith, same)
 
 -- the first file of open ones tells its places
-first_tells : (asked : Option Asked) (f : FileState) (files : List FileState) → AreTold asked (f ∷ files) → IsSome asked → IsSome f.asked
-first_tells asked f files told some = told some 0 f (omega arith)
+first_known_too : (asked : Option Asked) (f : FileState) (files : List FileState) → AreKnown asked (f ∷ files) → IsSome asked → IsSome f.asked
+first_known_too asked f files known some = known some 0 f (omega arith)
 
 -- and so do the others
-others_tell : (asked : Option Asked) (f : FileState) (files : List FileState) → AreTold asked (f ∷ files) → IsSome asked → AllTell files
-others_tell asked f files told some = λ k d inside. told some (suc k) d (omega (arith, inside))
+others_known : (asked : Option Asked) (f : FileState) (files : List FileState) → AreKnown asked (f ∷ files) → IsSome asked → AllKnown files
+others_known asked f files known some = λ k d inside. known some (suc k) d (omega (arith, inside))
 
 module _ (draws : Drawing)
-    (drawn : PictureDrawn) (t : WalkInput) (told : Option (List ℕ)) (d : ℕ) (store : List ℕ) (kept now : FileState)
+    (drawn : PictureDrawn) (t : WalkInput) (known : Option (List ℕ)) (d : ℕ) (store : List ℕ) (kept now : FileState)
     (files : Option Files) (asked : Option Asked) (faults : ℕ) (m n : MachineState) (held : Option (List ℕ)) (out_faults : ℕ)
-    (input : IsWalkInput t) (frames : t.pinned ≤ t.settings.frames) (is_store : IsStoreIfTold told t.geometry.now d) (depth : d ≡ t.depth)
-    (begins : IsBegun (given_of draws t told) m) (tells : AreTold asked (kept ∷ m.files)) where
+    (input : IsWalkInput t) (frames : t.pinned ≤ t.settings.frames) (is_store : IsStoreIfKnown known t.geometry.now d) (depth : d ≡ t.depth)
+    (begins : IsBegun (given_of draws t known) m) (known_too : AreKnown asked (kept ∷ m.files)) where
   abbrev given : WalkGiven
-  given = given_of draws t told
+  given = given_of draws t known
 
   abbrev was : WalkState
   was = state_of files asked faults store (kept ∷ m.files) held out_faults
@@ -191,7 +191,7 @@ module _ (draws : Drawing)
   later new opened rose = state_of new opened rose store (now ∷ n.files) held out_faults
 
   pub walk_given : IsGiven given
-  walk_given = is_given draws t told input frames (subst (IsStoreIfTold told t.geometry.now) depth is_store)
+  walk_given = is_given draws t known input frames (subst (IsStoreIfKnown known t.geometry.now) depth is_store)
 
   -- the pinned pages are those of the input
   pub pages_pinned : (changes : List Change) → n ≡ with_pinned t.geometry.now t.pinned m → changes ≡ n.journal → Pinned t.geometry.now changes t.pinned
@@ -207,45 +207,45 @@ module _ (draws : Drawing)
       let e : sum (counts_of n.files) ≡ sum (counts_of m.files) = ap (λ (fs : List FileState). sum (counts_of fs)) same in
       omega (arith, sum-one kept.faults (counts_of m.files), sum-one now.faults (counts_of n.files), e, grown, risen)
 
-  asks_for : n.files ≡ m.files → OnTold (AreAskedFor t.geometry.now d t.pinned [] []) kept.asked now.asked
-      → OnTold (AreAskedFor t.geometry.now t.depth given.setup.pinned [] []) (with_open store (kept ∷ m.files) asked) (with_open store (now ∷ n.files) asked)
+  asks_for : n.files ≡ m.files → OnKnown (AreAskedFor t.geometry.now d t.pinned [] []) kept.asked now.asked
+      → OnKnown (AreAskedFor t.geometry.now t.depth given.setup.pinned [] []) (with_open store (kept ∷ m.files) asked) (with_open store (now ∷ n.files) asked)
   asks_for same asks =
-      subst (λ (fs : List FileState). OnTold (AreAskedFor t.geometry.now t.depth given.setup.pinned [] []) (with_open store (kept ∷ m.files) asked)
+      subst (λ (fs : List FileState). OnKnown (AreAskedFor t.geometry.now t.depth given.setup.pinned [] []) (with_open store (kept ∷ m.files) asked)
       (with_open store (now ∷ fs) asked)) (sym same)
       (one_asks t.geometry.now t.depth given.setup.pinned store kept now m.files [] [] asked kept.asked now.asked refl refl
-      (first_tells asked kept m.files tells)
-      (subst (λ k. OnTold (AreAskedFor t.geometry.now t.depth k [] []) kept.asked now.asked) input.pages
-      (subst (λ k. OnTold (AreAskedFor t.geometry.now k t.pinned [] []) kept.asked now.asked) depth asks)))
+      (first_known_too asked kept m.files known_too)
+      (subst (λ k. OnKnown (AreAskedFor t.geometry.now t.depth k [] []) kept.asked now.asked) input.pages
+      (subst (λ k. OnKnown (AreAskedFor t.geometry.now k t.pinned [] []) kept.asked now.asked) depth asks)))
 
   -- a pinned page could not be placed
-  pub pinned_broke : n.files ≡ m.files → OnTold (AreAskedAtMostFor t.geometry.now d t.pinned []) kept.asked now.asked
-      → OnTold (λ old new. lost_reads t.geometry.now d t.pinned new ≡ lost_reads t.geometry.now d t.pinned old) kept.asked now.asked
-      → kept.faults ≤ now.faults → (error : OutsideError) (e : WalkError) → (error ≡ Failed → Rose kept.faults now.faults) → e ≡ refusal_by error
+  pub pinned_broke : n.files ≡ m.files → OnKnown (AreAskedAtMostFor t.geometry.now d t.pinned []) kept.asked now.asked
+      → OnKnown (λ old new. lost_reads t.geometry.now d t.pinned new ≡ lost_reads t.geometry.now d t.pinned old) kept.asked now.asked
+      → kept.faults ≤ now.faults → (error : OutsideError) (e : WalkError) → (error ≡ Failed → Rose kept.faults now.faults) → e ≡ walk_refusal_by error
       → LeftByRefusal drawn given was (later files asked faults) e
   pinned_broke same asks lost grown error e failed is =
-      let tell = first_tells asked kept m.files tells in
-      let most : OnTold (AreAskedAtMostFor t.geometry.now t.depth given.setup.pinned []) (with_open store (kept ∷ m.files) asked)
+      let all_known = first_known_too asked kept m.files known_too in
+      let most : OnKnown (AreAskedAtMostFor t.geometry.now t.depth given.setup.pinned []) (with_open store (kept ∷ m.files) asked)
       (with_open store (now ∷ n.files) asked) =
-      subst (λ (fs : List FileState). OnTold (AreAskedAtMostFor t.geometry.now t.depth given.setup.pinned []) (with_open store (kept ∷ m.files) asked)
+      subst (λ (fs : List FileState). OnKnown (AreAskedAtMostFor t.geometry.now t.depth given.setup.pinned []) (with_open store (kept ∷ m.files) asked)
       (with_open store (now ∷ fs) asked)) (sym same)
-      (one_asks_most t.geometry.now t.depth given.setup.pinned store kept now m.files [] asked kept.asked now.asked refl refl tell
-      (subst (λ k. OnTold (AreAskedAtMostFor t.geometry.now t.depth k []) kept.asked now.asked) input.pages
-      (subst (λ k. OnTold (AreAskedAtMostFor t.geometry.now k t.pinned []) kept.asked now.asked) depth asks))) in (
+      (one_asks_most t.geometry.now t.depth given.setup.pinned store kept now m.files [] asked kept.asked now.asked refl refl all_known
+      (subst (λ k. OnKnown (AreAskedAtMostFor t.geometry.now t.depth k []) kept.asked now.asked) input.pages
+      (subst (λ k. OnKnown (AreAskedAtMostFor t.geometry.now k t.pinned []) kept.asked now.asked) depth asks))) in (
         inl (record { files = inl refl; held = refl; asked = most; faults = more_faults faults same grown (omega arith); out_faults = omega arith }),
         subst (IsCausedBy drawn given was (later files asked faults)) (sym is) (cause error failed),
       ) where
         none : reads_lost given (with_open store (kept ∷ m.files) asked) (with_open store (now ∷ n.files) asked) ≡ 0
         none = none_lost given (with_open store (kept ∷ m.files) asked) (with_open store (now ∷ n.files) asked)
-            (subst (λ (fs : List FileState). OnTold (IsLostAlike t.geometry.now t.depth given.setup.pinned store kept now m.files)
+            (subst (λ (fs : List FileState). OnKnown (IsLostAlike t.geometry.now t.depth given.setup.pinned store kept now m.files)
             (with_open store (kept ∷ m.files) asked) (with_open store (now ∷ fs) asked)) (sym same)
             (one_loses t.geometry.now t.depth given.setup.pinned store kept now m.files asked kept.asked now.asked refl refl
-            (first_tells asked kept m.files tells)
-            (subst (λ k. OnTold (λ old new. lost_reads t.geometry.now t.depth k new ≡ lost_reads t.geometry.now t.depth k old) kept.asked now.asked) input.pages
-            (subst (λ k. OnTold (λ old new. lost_reads t.geometry.now k t.pinned new ≡ lost_reads t.geometry.now k t.pinned old) kept.asked now.asked)
+            (first_known_too asked kept m.files known_too)
+            (subst (λ k. OnKnown (λ old new. lost_reads t.geometry.now t.depth k new ≡ lost_reads t.geometry.now t.depth k old) kept.asked now.asked) input.pages
+            (subst (λ k. OnKnown (λ old new. lost_reads t.geometry.now k t.pinned new ≡ lost_reads t.geometry.now k t.pinned old) kept.asked now.asked)
             depth lost))))
 
         cause : (error : OutsideError) → (error ≡ Failed → Rose kept.faults now.faults)
-            → IsCausedBy drawn given was (later files asked faults) (refusal_by error)
+            → IsCausedBy drawn given was (later files asked faults) (walk_refusal_by error)
         cause NoMemory failed = tt
         cause Failed failed =
             let rose = failed refl in
@@ -254,22 +254,22 @@ module _ (draws : Drawing)
 
   -- the journal was not begun
   pub head_broke : (new : Option Files) (opened : Option Asked) (rose : ℕ) → n.files ≡ m.files
-      → OnTold (AreAskedFor t.geometry.now d t.pinned [] []) kept.asked now.asked
+      → OnKnown (AreAskedFor t.geometry.now d t.pinned [] []) kept.asked now.asked
       → kept.faults ≤ now.faults → (new ≡ files) ⊎ ((k : ℕ) ×
       (new ≡ option_map (with_bytes t.names.journal.now (take k (head_text t.geometry.now t.pinned))) files))
-      → opened ≡ asked → faults ≤ rose → (error : OutsideError) (e : WalkError) → (error ≡ Failed → Rose faults rose) → e ≡ refusal_by error
+      → opened ≡ asked → faults ≤ rose → (error : OutsideError) (e : WalkError) → (error ≡ Failed → Rose faults rose) → e ≡ walk_refusal_by error
       → LeftByRefusal drawn given was (later new opened rose) e
   head_broke new opened rose same asks grown part kept_asked risen error e failed is =
       let exact = asks_for same asks in
-      let exactly : OnTold (AreAskedFor t.geometry.now t.depth given.setup.pinned [] []) (with_open store (kept ∷ m.files) asked)
+      let exactly : OnKnown (AreAskedFor t.geometry.now t.depth given.setup.pinned [] []) (with_open store (kept ∷ m.files) asked)
       (with_open store (now ∷ n.files) opened) =
-      subst (λ (a : Option Asked). OnTold (AreAskedFor t.geometry.now t.depth given.setup.pinned [] []) (with_open store (kept ∷ m.files) asked)
+      subst (λ (a : Option Asked). OnKnown (AreAskedFor t.geometry.now t.depth given.setup.pinned [] []) (with_open store (kept ∷ m.files) asked)
       (with_open store (now ∷ n.files) a)) (sym kept_asked) exact in (
         inl (record {
           files = subst (λ k. (new ≡ files) ⊎ ((j : ℕ) × (new ≡ option_map (with_bytes t.names.journal.now (take j (head_text t.geometry.now k)))
               files))) input.pages part;
           held = refl;
-          asked = told_more (AreAskedFor t.geometry.now t.depth given.setup.pinned [] []) (AreAskedAtMostFor t.geometry.now t.depth given.setup.pinned [])
+          asked = known_more (AreAskedFor t.geometry.now t.depth given.setup.pinned [] []) (AreAskedAtMostFor t.geometry.now t.depth given.setup.pinned [])
               (with_open store (kept ∷ m.files) asked) (with_open store (now ∷ n.files) opened) (λ x y a at len. omega (arith, a.asked at len)) exactly;
           faults = more_faults rose same grown risen;
           out_faults = omega arith;
@@ -277,9 +277,9 @@ module _ (draws : Drawing)
         subst (IsCausedBy drawn given was (later new opened rose)) (sym is) (cause error failed exactly),
       ) where
         cause : (error : OutsideError) → (error ≡ Failed → Rose faults rose)
-            → OnTold (AreAskedFor t.geometry.now t.depth given.setup.pinned [] []) (with_open store (kept ∷ m.files) asked)
+            → OnKnown (AreAskedFor t.geometry.now t.depth given.setup.pinned [] []) (with_open store (kept ∷ m.files) asked)
             (with_open store (now ∷ n.files) opened)
-            → IsCausedBy drawn given was (later new opened rose) (refusal_by error)
+            → IsCausedBy drawn given was (later new opened rose) (walk_refusal_by error)
         cause NoMemory failed exactly = tt
         cause Failed failed exactly =
             let rises = failed refl in
@@ -289,7 +289,7 @@ module _ (draws : Drawing)
 
   -- the journal's head is there
   pub head_stands : (new : Option Files) (opened : Option Asked) (rose : ℕ) (v : RecencyView) → n ≡ with_pinned t.geometry.now t.pinned m
-      → OnTold (AreAskedFor t.geometry.now d t.pinned [] []) kept.asked now.asked → kept.faults ≤ now.faults
+      → OnKnown (AreAskedFor t.geometry.now d t.pinned [] []) kept.asked now.asked → kept.faults ≤ now.faults
       → new ≡ option_map (with_bytes t.names.journal.now (head_text t.geometry.now t.pinned)) files → IsThere new t.names.journal.now
       → opened ≡ asked → faults ≤ rose → v ≡ first_view t.geometry.now t.settings.frames t.pinned
       → StandsFirst drawn given was (later new opened rose) n v
@@ -305,7 +305,7 @@ module _ (draws : Drawing)
               (ap (head_text t.geometry.now) input.pages ∙ sym (append-nil (head_text t.geometry.now given.setup.pinned)));
           there = there;
           held = gained_none held;
-          asked = subst (λ (a : Option Asked). OnTold (AreAskedFor t.geometry.now t.depth given.setup.pinned [] [])
+          asked = subst (λ (a : Option Asked). OnKnown (AreAskedFor t.geometry.now t.depth given.setup.pinned [] [])
               (with_open store (kept ∷ m.files) asked) (with_open store (now ∷ n.files) a)) (sym kept_asked) exact;
           faults = let f = more_faults rose same grown risen in omega (arith, f);
           out_faults = omega arith;
@@ -316,9 +316,9 @@ module _ (draws : Drawing)
           journal = ap (λ (x : MachineState). x.journal) placed ∙ ap (pinned_changes t.geometry.now) input.pages;
           recency = view ∙ ap (first_view t.geometry.now t.settings.frames) input.pages;
         };
-        tell = λ some. subst AllTell (sym same) (others_tell asked kept m.files tells
-            (folder_tells asked (subst (λ (a : Option Asked). IsSome (with_open store (now ∷ n.files) a)) kept_asked some)));
+        all_known = λ some. subst AllKnown (sym same) (others_known asked kept m.files known_too
+            (folder_known asked (subst (λ (a : Option Asked). IsSome (with_open store (now ∷ n.files) a)) kept_asked some)));
       } where
-        folder_tells : (asked : Option Asked) → IsSome (with_open store (now ∷ n.files) asked) → IsSome asked
-        folder_tells None some = some
-        folder_tells (Some places) some = refl
+        folder_known : (asked : Option Asked) → IsSome (with_open store (now ∷ n.files) asked) → IsSome asked
+        folder_known None some = some
+        folder_known (Some places) some = refl

@@ -18,11 +18,11 @@ use Rattle.vt_journal.proofs.EventLines.{length-changes_of}
 use Rattle.vt_evict.specs.PlanTypes.batches.Planned.{Planned}
 use Rattle.vt_walk_decisions.specs.Outcomes.{victim_events, group_if, group_at, pass_events, IsOutcome}
 use Rattle.vt_walk.specs.Fits.{WalkSetup}
-use Rattle.vt_walk.specs.Runs.{WalkPass, IsWalkSetup, IsRun, IsNextPass, journal_after}
+use Rattle.vt_walk.specs.Runs.{WalkPass, IsWalkSetup, IsWalkRun, IsNextPass, journal_after}
 use Rattle.vt_walk.specs.Logs.{events_in, reads_of}
 use Rattle.vt_walk.proofs.Asking.{reads_more}
 use Rattle.vt_walk.proofs.Running.{plan_most}
-use Rattle.vt_walk.proofs.Telling.{next_told}
+use Rattle.vt_walk.proofs.RunContents.{next_content}
 
 group_short : (o : Option Planned) (lost : Bool) → length (group_if o lost) ≤ 2
 group_short None lost = omega arith
@@ -65,7 +65,7 @@ length-pinned : (f : ℕ → Change) (a n : ℕ) → length (map f (range_with_l
 length-pinned f a zero = refl
 length-pinned f a (suc n) = ap suc (length-pinned f (a + 1) n)
 
-pub journal_short : (w : WalkSetup) (passes : List WalkPass) → w.most ≤ most_entries → IsRun w passes
+pub journal_short : (w : WalkSetup) (passes : List WalkPass) → w.most ≤ most_entries → IsWalkRun w passes
     → length (journal_after w passes) ≤ w.pinned + 8192 * length passes
 journal_short w [] few run = omega (arith, length-pinned (pinned_change w.shape w.pinned) 0 w.pinned)
 journal_short w (p ∷ passes) few run =
@@ -77,7 +77,7 @@ journal_short w (p ∷ passes) few run =
       journal_short w passes few run.0,
     )
 
-pub kind_short : (w : WalkSetup) (kind : Event → Bool) (passes : List WalkPass) → w.most ≤ most_entries → IsRun w passes
+pub kind_short : (w : WalkSetup) (kind : Event → Bool) (passes : List WalkPass) → w.most ≤ most_entries → IsWalkRun w passes
     → events_in kind passes ≤ 8192 * length passes
 kind_short w kind [] few run = omega arith
 kind_short w kind (p ∷ passes) few run =
@@ -89,7 +89,7 @@ kind_short w kind (p ∷ passes) few run =
       kind_short w kind passes few run.0,
     )
 
-pub reads_short : (w : WalkSetup) (passes : List WalkPass) → w.most ≤ most_entries → IsRun w passes
+pub reads_short : (w : WalkSetup) (passes : List WalkPass) → w.most ≤ most_entries → IsWalkRun w passes
     → reads_of w passes ≤ w.pinned + most_entries * length passes
 reads_short w [] few run = omega arith
 reads_short w (p ∷ passes) few run = omega (arith, reads_more w p passes, batch_short w passes p few run.1, reads_short w passes few run.0)
@@ -102,8 +102,8 @@ in_chain s pinned js (Changed (Unmap page frame) ∷ es) all =
 in_chain s pinned js (Lost page ∷ es) all = (all.0, in_chain s pinned js es all.2)
 
 -- the events of the next pass are in the chain
-pub events_in_chain : (w : WalkSetup) (passes : List WalkPass) (p : WalkPass) → IsWalkSetup w → IsRun w passes → IsNextPass w passes p
+pub events_in_chain : (w : WalkSetup) (passes : List WalkPass) (p : WalkPass) → IsWalkSetup w → IsWalkRun w passes → IsNextPass w passes p
     → All (IsEventInChain w.shape) p.events
 events_in_chain w passes p h run next =
     All-from_recursion (IsEventInChain w.shape) p.events (in_chain w.shape w.pinned (journal_after w passes) p.events
-    (next_told w passes p h run next).events)
+    (next_content w passes p h run next).events)

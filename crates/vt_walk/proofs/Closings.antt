@@ -12,7 +12,7 @@ use Rattle.vt_outside.specs.declared.place.Place.{Place}
 use Rattle.vt_outside.specs.declared.outside.Folder.{Ghosts as FolderMeanings}
 use Rattle.vt_walk_decisions.specs.Requests.{FileState, AreSameFiles, counts_of}
 use Rattle.vt_walk.specs.States.{WalkState, AreOpen, places_of, walk_state}
-use Rattle.vt_walk.specs.Reads.{OnTold}
+use Rattle.vt_walk.specs.Reads.{OnKnown}
 use Rattle.vt_walk.specs.Closing.{with_closed, AreOtherNamesAsBefore}
 use Rattle.vt_walk.proofs.Asking.{count_both}
 use Rattle.vt_walk.proofs.Asks.{sum-one}
@@ -28,9 +28,9 @@ pub record IsAlike (before after : WalkState) : Type 0 where
   pub held : after.held ≡ before.held
   pub faults : before.faults ≤ after.faults
   pub out_faults : after.out_faults ≡ before.out_faults
-  pub asked : OnTold AreSamePlaces before.asked after.asked
+  pub asked : OnKnown AreSamePlaces before.asked after.asked
 
-pub same_places : (asked : Option (List Place)) → OnTold AreSamePlaces asked asked
+pub same_places : (asked : Option (List Place)) → OnKnown AreSamePlaces asked asked
 same_places None = tt
 same_places (Some places) = record { asked = λ at len. refl; failed = λ at len. refl }
 
@@ -51,22 +51,22 @@ named_all name (suc n) (f ∷ opened) same = (first same, named_all name n opene
   rest : f.name ∷ map (λ (e : FileState). e.name) opened ≡ name ∷ replicate n name → map (λ (e : FileState). e.name) opened ≡ replicate n name
   rest e = cc
 
--- the places after files were closed, where they are told
+-- the places after files were closed, where they are known
 abbrev closed : List FileState → Asked → Asked
 closed [] asked = asked
 closed (f ∷ opened) asked = with_places f.name f.asked (closed opened asked)
 
-closed_told : (opened : List FileState) (asked : Asked) → with_closed opened (Some asked) ≡ Some (closed opened asked)
-closed_told [] asked = refl
-closed_told (f ∷ opened) asked = ap (option_map (with_places f.name f.asked)) (closed_told opened asked)
+closed_known : (opened : List FileState) (asked : Asked) → with_closed opened (Some asked) ≡ Some (closed opened asked)
+closed_known [] asked = refl
+closed_known (f ∷ opened) asked = ap (option_map (with_places f.name f.asked)) (closed_known opened asked)
 
-closed_untold : (opened : List FileState) → with_closed opened None ≡ None
-closed_untold [] = refl
-closed_untold (f ∷ opened) = ap (option_map (with_places f.name f.asked)) (closed_untold opened)
+closed_unknown : (opened : List FileState) → with_closed opened None ≡ None
+closed_unknown [] = refl
+closed_unknown (f ∷ opened) = ap (option_map (with_places f.name f.asked)) (closed_unknown opened)
 
-pub closed_tells : (opened : List FileState) (asked : Option Asked) → is_some (with_closed opened asked) ≡ is_some asked
-closed_tells opened None = ap (λ (o : Option Asked). is_some o) (closed_untold opened)
-closed_tells opened (Some asked) = ap (λ (o : Option Asked). is_some o) (closed_told opened asked)
+pub closed_knows : (opened : List FileState) (asked : Option Asked) → is_some (with_closed opened asked) ≡ is_some asked
+closed_knows opened None = ap (λ (o : Option Asked). is_some o) (closed_unknown opened)
+closed_knows opened (Some asked) = ap (λ (o : Option Asked). is_some o) (closed_known opened asked)
 
 count_closed : (t : Place → Bool) (name : List ℕ) (opened : List FileState) (asked : Asked) → AreNamed name opened
     → count_by t (closed opened asked name) ≡ count_by t (asked name) + count_by t (places_of opened)
@@ -93,13 +93,13 @@ other_closed name q (f ∷ opened) asked named other =
 pub others_closed : (name : List ℕ) (n : ℕ) (opened : List FileState) (before after : Option Asked) → AreOpen n name before opened
     → after ≡ with_closed opened before → AreOtherNamesAsBefore name before after
 others_closed name n opened None after are is = record {
-  tell = ap (λ (o : Option Asked). is_some o) is ∙ closed_tells opened None;
+  all_known = ap (λ (o : Option Asked). is_some o) is ∙ closed_knows opened None;
   same = λ old new q was now other. let no : None ≡ Some old = was in absurd (let no_value : ⊥ = cc in no_value);
 }
 others_closed name n opened (Some asked) after are is =
-    let told = is ∙ closed_told opened asked in
+    let known = is ∙ closed_known opened asked in
     record {
-      tell = ap (λ (o : Option Asked). is_some o) is ∙ closed_tells opened (Some asked);
+      all_known = ap (λ (o : Option Asked). is_some o) is ∙ closed_knows opened (Some asked);
       same = λ old new q was now other.
           let first : asked ≡ old = cc in
           let last : new ≡ closed opened asked = cc in
@@ -113,15 +113,15 @@ counts_both (f ∷ front) opened = omega (arith, sum-one f.faults (counts_of (fr
 -- the places of a name with those of open files, and after some of these were closed
 places_closed : (name : List ℕ) (n : ℕ) (front opened : List FileState) (before after : Option Asked) → AreOpen n name before opened
     → after ≡ with_closed opened before
-    → OnTold AreSamePlaces (option_map (λ (asked : Asked). asked name ++ places_of (front ++ opened)) before) (option_map (λ
+    → OnKnown AreSamePlaces (option_map (λ (asked : Asked). asked name ++ places_of (front ++ opened)) before) (option_map (λ
     (asked : Asked). asked name ++ places_of front) after)
 places_closed name n front opened None after are is =
-    subst (λ (o : Option Asked). OnTold AreSamePlaces None (option_map (λ (asked : Asked). asked name ++ places_of front) o)) (sym (is
-    ∙ closed_untold opened)) tt
+    subst (λ (o : Option Asked). OnKnown AreSamePlaces None (option_map (λ (asked : Asked). asked name ++ places_of front) o)) (sym (is
+    ∙ closed_unknown opened)) tt
 places_closed name n front opened (Some asked) after are is =
-    subst (λ (o : Option Asked). OnTold AreSamePlaces (Some (asked name ++ places_of (front ++ opened))) (option_map (λ
+    subst (λ (o : Option Asked). OnKnown AreSamePlaces (Some (asked name ++ places_of (front ++ opened))) (option_map (λ
     (a : Asked). a name ++ places_of front) o))
-    (sym (is ∙ closed_told opened asked))
+    (sym (is ∙ closed_known opened asked))
     (record {
       asked = λ at len. as_often (is_read_of at len);
       failed = λ at len. as_often (λ (place : Place). is_read_of at len place && place.failed);
@@ -153,4 +153,4 @@ closed_alike d name n front opened before after held out_faults are asked rose f
 -- the same files are open
 pub same_open : (n : ℕ) (name : List ℕ) (old new : List FileState) (asked : Option Asked) → AreOpen n name asked old → AreSameFiles old new
     → AreOpen n name asked new
-same_open n name old new asked are same = record { tell = same.tell ∙ are.tell; named = λ some. same.names ∙ are.named some }
+same_open n name old new asked are same = record { all_known = same.all_known ∙ are.all_known; named = λ some. same.names ∙ are.named some }

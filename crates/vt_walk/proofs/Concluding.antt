@@ -13,15 +13,15 @@ use Rattle.vt_outside.specs.declared.outside.Folder.{Ghosts as FolderMeanings}
 use Rattle.vt_walk_decisions.specs.Requests.{FileState, AreSameFiles, counts_of}
 use Rattle.vt_walk_decisions.specs.declared.error.WalkError.{WalkError}
 use Rattle.vt_walk_decisions.specs.declared.error.WalkError.TheVariants.{NoMemory}
-use Rattle.vt_walk_decisions.specs.Refusals.{refusal_by}
+use Rattle.vt_walk_decisions.specs.Refusals.{walk_refusal_by}
 use Rattle.vt_walk.specs.DrawnBy.{PictureDrawn}
 use Rattle.vt_walk.specs.Walks.{WalkGiven}
 use Rattle.vt_walk.specs.States.{WalkState, AreOpen, places_of, walk_state}
-use Rattle.vt_walk.specs.Reads.{AreAskedAtMostFor, OnTold}
+use Rattle.vt_walk.specs.Reads.{AreAskedAtMostFor, OnKnown}
 use Rattle.vt_walk.specs.Standing.{Finished}
 use Rattle.vt_walk.specs.Leaving.{Left}
 use Rattle.vt_walk.specs.Causes.{reads_lost, HasFailed, IsCausedBy}
-use Rattle.vt_walk.specs.Beginnings.{AreTold, IsSameFile}
+use Rattle.vt_walk.specs.Beginnings.{AreKnown, IsSameFile}
 use Rattle.vt_walk.specs.Closing.{with_closed, AreOtherNamesAsBefore}
 use Rattle.vt_walk.specs.WalkSteps.{LeftByRefusal}
 use Rattle.vt_walk.proofs.Asks.{sum-one}
@@ -30,10 +30,10 @@ use Rattle.vt_walk.proofs.Alike.{ends_alike}
 use Rattle.vt_walk.proofs.Earlier.{ends_from}
 
 -- where the folder tells its places, open files do so
-told_all : (n : ℕ) (opened : List FileState) → map (λ f. is_some f.asked) opened ≡ replicate n true → AllByRecursion (λ f. IsSome f.asked) opened
-told_all n [] same = tt
-told_all zero (f ∷ opened) same = let no : ⊥ = cc in absurd no
-told_all (suc n) (f ∷ opened) same = (first same, told_all n opened (rest same)) where
+known_all : (n : ℕ) (opened : List FileState) → map (λ f. is_some f.asked) opened ≡ replicate n true → AllByRecursion (λ f. IsSome f.asked) opened
+known_all n [] same = tt
+known_all zero (f ∷ opened) same = let no : ⊥ = cc in absurd no
+known_all (suc n) (f ∷ opened) same = (first same, known_all n opened (rest same)) where
   first : is_some f.asked ∷ map (λ (e : FileState). is_some e.asked) opened ≡ true ∷ replicate n true → is_some f.asked ≡ true
   first e = cc
 
@@ -41,35 +41,35 @@ told_all (suc n) (f ∷ opened) same = (first same, told_all n opened (rest same
       → map (λ (e : FileState). is_some e.asked) opened ≡ replicate n true
   rest e = cc
 
-pub open_told : (n m : ℕ) (name : List ℕ) (asked : Option Asked) (kept : FileState) (opened : List FileState) → AreOpen n name asked (kept ∷ [])
-    → AreOpen m name asked opened → AreTold asked (kept ∷ opened)
-open_told n m name asked kept opened own others some =
+pub open_known : (n m : ℕ) (name : List ℕ) (asked : Option Asked) (kept : FileState) (opened : List FileState) → AreOpen n name asked (kept ∷ [])
+    → AreOpen m name asked opened → AreKnown asked (kept ∷ opened)
+open_known n m name asked kept opened own others some =
     All-from_recursion (λ (f : FileState). IsSome f.asked) (kept ∷ opened)
-    ((told_all n (kept ∷ []) (own.tell ∙ ap (replicate n) some)).0, told_all m opened (others.tell ∙ ap (replicate m) some))
+    ((known_all n (kept ∷ []) (own.all_known ∙ ap (replicate n) some)).0, known_all m opened (others.all_known ∙ ap (replicate m) some))
 
 -- the same file stays open
 pub one_open : (n : ℕ) (name : List ℕ) (before after : Option Asked) (kept new : FileState) → AreOpen n name before (kept ∷ []) → IsSameFile kept new
     → is_some after ≡ is_some before → AreOpen n name after (new ∷ [])
-one_open n name before after kept new are same tell = record {
-  tell = ap (λ (b : Bool). b ∷ []) same.tell ∙ are.tell ∙ ap (replicate n) (sym tell);
-  named = λ some. ap (λ (q : List ℕ). q ∷ []) same.name ∙ are.named (sym tell ∙ some);
+one_open n name before after kept new are same all_known = record {
+  all_known = ap (λ (b : Bool). b ∷ []) same.all_known ∙ are.all_known ∙ ap (replicate n) (sym all_known);
+  named = λ some. ap (λ (q : List ℕ). q ∷ []) same.name ∙ are.named (sym all_known ∙ some);
 }
 
 -- the name is there where the folder tells its files, as the file does
-pub told_there : (files : Option Files) (name : List ℕ) (told : Option (List ℕ)) → told ≡ bytes_at files name → is_some told ≡ is_some files
+pub known_there : (files : Option Files) (name : List ℕ) (known : Option (List ℕ)) → known ≡ bytes_at files name → is_some known ≡ is_some files
     → IsThere files name
-told_there None name told bytes tells = tt
-told_there (Some files) name told bytes tells = ap (λ (o : Option (List ℕ)). is_some o) (sym bytes) ∙ tells
+known_there None name known bytes known_too = tt
+known_there (Some files) name known bytes known_too = ap (λ (o : Option (List ℕ)). is_some o) (sym bytes) ∙ known_too
 
 -- two steps that leave the other names as they were are one
 pub others_chain : (name : List ℕ) (first mid last : Option Asked) → AreOtherNamesAsBefore name first mid → AreOtherNamesAsBefore name mid last
     → AreOtherNamesAsBefore name first last
 others_chain name first None last one two = record {
-  tell = two.tell ∙ one.tell;
-  same = λ old new q was now other. absurd (false≢true (one.tell ∙ ap (λ (o : Option Asked). is_some o) was));
+  all_known = two.all_known ∙ one.all_known;
+  same = λ old new q was now other. absurd (false≢true (one.all_known ∙ ap (λ (o : Option Asked). is_some o) was));
 }
 others_chain name first (Some m) last one two = record {
-  tell = two.tell ∙ one.tell;
+  all_known = two.all_known ∙ one.all_known;
   same = λ old new q was now other. two.same m new q refl now other ∙ one.same old m q was refl other;
 }
 
@@ -120,7 +120,7 @@ module _ {D F : Type 0} (d : FolderMeanings D F) (name : List ℕ) where
       faults = alike.faults;
       out_faults = let same = alike.out_faults in omega (arith, same);
     }) where
-      none_asked : (a b : Option (List Place)) → OnTold AreSamePlaces a b → OnTold (AreAskedAtMostFor g.scene.shape g.scene.depth g.setup.pinned []) a b
+      none_asked : (a b : Option (List Place)) → OnKnown AreSamePlaces a b → OnKnown (AreAskedAtMostFor g.scene.shape g.scene.depth g.setup.pinned []) a b
       none_asked None None same = tt
       none_asked (Some a) (Some b) same = λ at len. omega (arith, same.asked at len)
       none_asked None (Some b) same = absurd same
@@ -183,7 +183,7 @@ module _ {D F : Type 0} (d : FolderMeanings D F) (name : List ℕ) where
     pub refused_first : (kept : FileState) (old new : D) (held : Option (List ℕ)) (o : ℕ) (refusal : OutsideError) → d.files new ≡ d.files old
         → d.asked new ≡ d.asked old
         → d.faults old ≤ d.faults new → (refusal ≡ Fault → Rose (d.faults old) (d.faults new))
-        → LeftByRefusal drawn g (walk_state d name old (kept ∷ []) held o) (walk_state d name new (kept ∷ []) held o) (refusal_by refusal)
+        → LeftByRefusal drawn g (walk_state d name old (kept ∷ []) held o) (walk_state d name new (kept ∷ []) held o) (walk_refusal_by refusal)
     refused_first kept old new held o refusal files asked faults failed = (left_alike first now alike, caused refusal failed) where
       first : WalkState
       first = walk_state d name old (kept ∷ []) held o
@@ -191,8 +191,8 @@ module _ {D F : Type 0} (d : FolderMeanings D F) (name : List ℕ) where
       now : WalkState
       now = walk_state d name new (kept ∷ []) held o
 
-      told : now.asked ≡ first.asked
-      told = ap (option_map (λ (places : Asked). places name ++ places_of (kept ∷ []))) asked
+      known : now.asked ≡ first.asked
+      known = ap (option_map (λ (places : Asked). places name ++ places_of (kept ∷ []))) asked
 
       alike : IsAlike first now
       alike = record {
@@ -200,9 +200,9 @@ module _ {D F : Type 0} (d : FolderMeanings D F) (name : List ℕ) where
         held = refl;
         faults = omega (arith, faults);
         out_faults = refl;
-        asked = subst (λ (a : Option (List Place)). OnTold AreSamePlaces first.asked a) (sym told) (alike_itself first).asked;
+        asked = subst (λ (a : Option (List Place)). OnKnown AreSamePlaces first.asked a) (sym known) (alike_itself first).asked;
       }
 
-      caused : (e : OutsideError) → (e ≡ Fault → Rose (d.faults old) (d.faults new)) → IsCausedBy drawn g first now (refusal_by e)
-      caused Fault failed = let rose = failed refl in failed_alone first now told (omega (arith, rose))
+      caused : (e : OutsideError) → (e ≡ Fault → Rose (d.faults old) (d.faults new)) → IsCausedBy drawn g first now (walk_refusal_by e)
+      caused Fault failed = let rose = failed refl in failed_alone first now known (omega (arith, rose))
       caused NoRoom failed = tt

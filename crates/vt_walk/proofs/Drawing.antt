@@ -18,9 +18,9 @@ use Rattle.vt_walk_decisions.specs.declared.settings.Settings.{Settings}
 use Rattle.vt_walk_decisions.specs.declared.mode.Mode.{Mode}
 use Rattle.vt_walk_decisions.specs.declared.mode.Mode.TheVariants.{Settled}
 use Rattle.vt_walk.specs.DrawnBy.{PictureDrawn, AnyRow}
-use Rattle.vt_walk.specs.Runs.{WalkPass, IsRun, IsFinished, GoesOn, Finishes, journal_after, plan_after}
+use Rattle.vt_walk.specs.Runs.{WalkPass, IsWalkRun, IsFinished, WalkGoesOn, Finishes, journal_after, plan_after}
 use Rattle.vt_walk.specs.Shown.{last_rows, IsRunPicture}
-use Rattle.vt_walk.specs.Walks.{WalkGiven, WalkNames, machine_of, given_by}
+use Rattle.vt_walk.specs.Walks.{WalkGiven, WalkNames, setup_of_walk, given_by}
 use Rattle.vt_walk.specs.Written.{IsWritten}
 use Rattle.vt_walk.specs.WalkSteps.{IsGiven, HasRun, job_for}
 use Rattle.vt_walk.proofs.Showing.{picture_drawn, rows_after, through_after, self_number}
@@ -35,24 +35,24 @@ module _ (draws : Drawing)
     (law : (scene : Scene) (b : List ℕ) (m : Table) (i x y : ℕ) → IsWithinLimits scene.shape → IsStore b scene.shape scene.depth
     → i < length scene.path.cameras → x < scene.path.width → y < scene.path.height → MapsNeeded scene.shape m (draws.needs scene i)
     → draws.shows scene b m i x y ≡ draws.whole scene b i x y)
-    (scene : Scene) (settings : Settings) (mode : Mode) (told : Option (List ℕ)) (names : WalkNames) where
+    (scene : Scene) (settings : Settings) (mode : Mode) (known : Option (List ℕ)) (names : WalkNames) where
   abbrev given : WalkGiven
-  given = given_by draws scene settings mode told names
+  given = given_by draws scene settings mode known names
 
-  pub picture_written : (run : List WalkPass) (p : WalkPass) (m : MachineState) → IsGiven given → IsRun given.setup (p ∷ run)
+  pub picture_written : (run : List WalkPass) (p : WalkPass) (m : MachineState) → IsGiven given → IsWalkRun given.setup (p ∷ run)
       → HasRun drawn given run p m → m.journal ≡ journal_after given.setup (p ∷ run)
-      → GoesOn mode given.setup p → IsFinished given.setup p run
+      → WalkGoesOn mode given.setup p → IsFinished given.setup p run
       → IsWritten drawn given (p ∷ run) p.picture (picture_bytes scene.depth scene.path.width scene.path.height (concat m.rows))
   picture_written run p m is_given is_run r journal goes_on finished =
-      let setup : m.setup ≡ machine_of given = r.ran.setup ∙ r.setup in
+      let setup : m.setup ≡ setup_of_walk given = r.ran.setup ∙ r.setup in
       let pictured : IsPictured draws AnyRow (job_for given p) p.rows m =
       subst (λ lines. IsPictured draws AnyRow (job_for given p) lines m) r.rows_are r.ran.picture in
       let own : last_rows (p ∷ run) p.picture ≡ p.rows = rows_after true p run p.picture (self_number p.picture) in
       record {
         samples = concat m.rows;
         encoded = refl;
-        replay = replayed told refl setup pictured;
-        plain = λ settled_mode. plain_picture told refl settled_mode;
+        replay = replayed known refl setup pictured;
+        plain = λ settled_mode. plain_picture known refl settled_mode;
         from_draws = record {
           machine = m;
           setup = setup;
@@ -64,7 +64,7 @@ module _ (draws : Drawing)
           drawn_by = subst (drawn m scene.path p.picture) (r.rows_are ∙ sym own) r.by;
         };
       } where
-        replayed : (o : Option (List ℕ)) → told ≡ o → m.setup ≡ machine_of given → IsPictured draws AnyRow (job_for given p) p.rows m
+        replayed : (o : Option (List ℕ)) → known ≡ o → m.setup ≡ setup_of_walk given → IsPictured draws AnyRow (job_for given p) p.rows m
             → IfSome o (λ b. IsRunPicture given.setup (p ∷ run) scene.depth scene.path.width (draws.shows scene b) p.picture (concat m.rows))
         replayed None is setup pictured = tt
         replayed (Some b) is setup pictured =
@@ -72,7 +72,7 @@ module _ (draws : Drawing)
             (picture_drawn given.setup p run draws AnyRow (job_for given p) m b pictured (ap (λ (s : Setup). s.bytes) setup ∙ is)
             (ap (λ (s : Setup). s.height) setup) journal refl)
 
-        plain_picture : (o : Option (List ℕ)) → told ≡ o → mode ≡ Settled
+        plain_picture : (o : Option (List ℕ)) → known ≡ o → mode ≡ Settled
             → IfSome o (λ b. IsPictureOf scene.depth scene.path.width scene.path.height (λ x y. draws.whole scene b p.picture x y) (concat m.rows))
         plain_picture None is settled_mode = tt
         plain_picture (Some b) is settled_mode =

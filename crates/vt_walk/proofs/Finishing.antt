@@ -19,8 +19,8 @@ use Rattle.vt_feedback.proofs.OrderedLists.{ordered_are_one}
 use Rattle.vt_evict.specs.PlanTypes.batches.Planned.{Planned}
 use Rattle.vt_plan.specs.Orders.{line_pages}
 use Rattle.vt_evict.specs.PageLists.{is_in, each_once}
-use Rattle.vt_plan.specs.Views.{RecencyView, IsTable, is_pinned, is_held, frame_of, free_frames, pages_needed}
-use Rattle.vt_evict.specs.Missing.{is_mapped, missing_from}
+use Rattle.vt_plan.specs.Views.{RecencyView, IsRecencyTable, is_pinned, is_held, frame_of, free_frames, pages_needed}
+use Rattle.vt_evict.specs.Missing.{has_frame, missing_from}
 use Rattle.vt_plan.specs.Plans.{missing_pages, candidates, planned_at, planned_count, plan_of}
 use Rattle.vt_evict.proofs.ListLemmas.{is_in-append, is_in-reverse, absent, range_once}
 use Rattle.vt_evict.proofs.PlanListLemmas.{nat_eq_true, is_in-filter}
@@ -74,7 +74,7 @@ lt_true : (n : ℕ) → 0 < n → nat_lt 0 n ≡ true
 lt_true n h = grind (arith, nat_tests)
 
 -- where no frame is free, the pages that may move are as many as the frames beside the pinned ones
-all_held : (v : RecencyView) → IsTable v → free_frames v ≡ [] → v.frames ≤ v.pinned + length v.order
+all_held : (v : RecencyView) → IsRecencyTable v → free_frames v ≡ [] → v.frames ≤ v.pinned + length v.order
 unfolding free_frames
 all_held v table none =
     let pins : List ℕ = range_with_len (pages_of v.shape - v.pinned) v.pinned in
@@ -100,7 +100,7 @@ all_held v table none =
         pick true pinned = or_false (is_in (range_with_len (pages_of v.shape - v.pinned) v.pinned) p) (is_in v.order p)
             (is_in-range (pages_of v.shape - v.pinned) v.pinned p ∙ in_range p (pages_of v.shape) v.pinned inside pinned table.enough_pages)
         pick false loose = or_true (is_in (range_with_len (pages_of v.shape - v.pinned) v.pinned) p) (is_in v.order p)
-            (table.in_order p ∙ both (is_mapped v.entries p) (not (is_pinned v p)) (lt_true (slice_index v.entries p) (omega (arith, at))) (ap not loose))
+            (table.in_order p ∙ both (has_frame v.entries p) (not (is_pinned v p)) (lt_true (slice_index v.entries p) (omega (arith, at))) (ap not loose))
 
       held : (f : ℕ) → is_in (range_with_len 0 v.frames) f ≡ true
           → is_in (map (frame_of v.entries) (range_with_len (pages_of v.shape - v.pinned) v.pinned ++ v.order)) f ≡ true
@@ -116,8 +116,8 @@ all_held v table none =
             (in_map (frame_of v.entries) (range_with_len (pages_of v.shape - v.pinned) v.pinned ++ v.order) p.0 (page_in p.0 f p.1))
 
 -- where no page may be given up, a missing page of a line is one page more than those that may move
-one_more : (v : RecencyView) (wants : List Wanted) (q : ℕ) → IsTable v → candidates v wants ≡ [] → q < pages_of v.shape
-    → is_in (line_pages v.shape (pages_wanted wants)) q ≡ true → is_mapped v.entries q ≡ false → length v.order + 1 ≤ pages_needed v wants
+one_more : (v : RecencyView) (wants : List Wanted) (q : ℕ) → IsRecencyTable v → candidates v wants ≡ [] → q < pages_of v.shape
+    → is_in (line_pages v.shape (pages_wanted wants)) q ≡ true → has_frame v.entries q ≡ false → length v.order + 1 ≤ pages_needed v wants
 unfolding IsDistinct candidates pages_needed line_pages
 one_more v wants q table none inside wanted missing =
     let lines : List ℕ = line_pages v.shape (pages_wanted wants) in
@@ -149,7 +149,7 @@ one_more v wants q table none inside wanted missing =
             → is_in (filter (λ p. not (is_pinned v p)) (line_pages v.shape (pages_wanted wants))) x ≡ true
         pick true same rest = subst (λ y. is_in (filter (λ p. not (is_pinned v p)) (line_pages v.shape (pages_wanted wants))) y ≡ true)
             (sym (nat_eq_true x q same)) (needed q wanted (unpinned (is_pinned v q) refl))
-        pick false other rest = needed x (in_line x rest _ refl) (not_pinned (is_mapped v.entries x) (is_pinned v x) (sym (table.in_order x) ∙ rest))
+        pick false other rest = needed x (in_line x rest _ refl) (not_pinned (has_frame v.entries x) (is_pinned v x) (sym (table.in_order x) ∙ rest))
 
 -- nothing is planned where nothing is missing, or where no frame is free and no page may be given up
 planned_none : (v : RecencyView) (wants : List Wanted) (q : ℕ) → 1 ≤ q → plan_of v wants q ≡ []
@@ -172,10 +172,10 @@ none_before f [] e = refl
 none_before f (x ∷ xs) e = absurd (let n : length (each_once (map f (x ∷ xs))) ≡ 0 = ap (λ (l : List ℕ). length l) e in omega (arith, n))
 
 -- a wanted page is mapped, where nothing is planned though the picture fits
-pub mapped_if_none : (v : RecencyView) (wants : List Wanted) (q p : ℕ) → IsTable v → 1 ≤ q → plan_of v wants q ≡ [] → pages_needed v wants ≤ v.frames - v.pinned
-    → p < pages_of v.shape → is_in (pages_wanted wants) p ≡ true → is_mapped v.entries p ≡ true
+pub mapped_if_none : (v : RecencyView) (wants : List Wanted) (q p : ℕ) → IsRecencyTable v → 1 ≤ q → plan_of v wants q ≡ [] → pages_needed v wants ≤ v.frames - v.pinned
+    → p < pages_of v.shape → is_in (pages_wanted wants) p ≡ true → has_frame v.entries p ≡ true
 unfolding missing_pages missing_from
-mapped_if_none v wants q p table some none fits inside wanted = pick (is_mapped v.entries p) refl (planned_none v wants q some none) where
+mapped_if_none v wants q p table some none fits inside wanted = pick (has_frame v.entries p) refl (planned_none v wants q some none) where
   own : is_in (ancestors_of v.shape p) p ≡ true
   own = let l = line_begins v.shape p table.limits inside in ap (λ (xs : List ℕ). is_in xs p) l.1 ∙ or_false (nat_eq p p) (is_in l.0 p) (self_eq p)
 
@@ -187,12 +187,12 @@ mapped_if_none v wants q p table some none fits inside wanted = pick (is_mapped 
     test true same rest more = or_false _ _ (ap (λ k. is_in (ancestors_of v.shape k) p) (sym (nat_eq_true p r same)) ∙ own)
     test false other rest more = or_true _ _ (more rest)
 
-  pick : (b : Bool) → is_mapped v.entries p ≡ b → (each_once (map (next_finer_page v.shape (is_mapped v.entries))
-      (filter (λ p. not (is_mapped v.entries p)) (pages_wanted wants))) ≡ [])
-      ⊎ ((free_frames v ≡ []) × (candidates v wants ≡ [])) → is_mapped v.entries p ≡ true
+  pick : (b : Bool) → has_frame v.entries p ≡ b → (each_once (map (next_finer_page v.shape (has_frame v.entries))
+      (filter (λ p. not (has_frame v.entries p)) (pages_wanted wants))) ≡ [])
+      ⊎ ((free_frames v ≡ []) × (candidates v wants ≡ [])) → has_frame v.entries p ≡ true
   pick true is why = is
-  pick false is (inl nothing) = in_none _ p (none_before (next_finer_page v.shape (is_mapped v.entries)) _ nothing)
-      (is_in-filter (λ p. not (is_mapped v.entries p)) (pages_wanted wants) p ∙ both _ _ wanted (ap not is))
+  pick false is (inl nothing) = in_none _ p (none_before (next_finer_page v.shape (has_frame v.entries)) _ nothing)
+      (is_in-filter (λ p. not (has_frame v.entries p)) (pages_wanted wants) p ∙ both _ _ wanted (ap not is))
   pick false is (inr full) = absurd (omega (
     arith,
     fits,

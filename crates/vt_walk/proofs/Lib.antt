@@ -2,7 +2,7 @@ pub mod Agreeing
 pub mod Eventing
 pub mod Settling
 pub mod Running
-pub mod Telling
+pub mod RunContents
 pub mod Finishing
 pub mod Wholeness
 pub mod Showing

@@ -12,7 +12,7 @@ use Rattle.vt_outside.specs.declared.outside.File.{Ghosts as FileMeanings}
 use Rattle.vt_pages.specs.Shape.{Shape}
 use Rattle.vt_tiles.specs.StoreViews.{StoreView}
 use Rattle.vt_walk_decisions.specs.Requests.{counts_of}
-use Rattle.vt_walk_decisions.specs.Machines.{files_of, told_by}
+use Rattle.vt_walk_decisions.specs.Machines.{files_of, known_bytes}
 use Rattle.vt_walk.specs.States.{places_of}
 use Rattle.vt_walk.specs.Closing.{with_closed, AreFresh}
 use Rattle.vt_walk.specs.Opening.{IsFresh}
@@ -42,9 +42,9 @@ no_more name (Some places) = ap Some (fun_ext (λ q. pick q (bytes_eq q name))) 
   pick q true = append-nil (places q)
   pick q false = refl
 
-module _ {F : Type 0} (g : FileMeanings F) (s : Shape) (d : ℕ) (name : List ℕ) (asked : Option Asked) (told : Option (List ℕ)) where
+module _ {F : Type 0} (g : FileMeanings F) (s : Shape) (d : ℕ) (name : List ℕ) (asked : Option Asked) (known : Option (List ℕ)) where
   abbrev IsNew : StoreView F → Type 0
-  IsNew = IsFresh g s d name asked told
+  IsNew = IsFresh g s d name asked known
 
   -- closing what was asked nothing leaves the places as they were
   pub closed_fresh : (stores : List (StoreView F)) → All IsNew stores → with_closed (files_of g stores) asked ≡ asked
@@ -55,26 +55,26 @@ module _ {F : Type 0} (g : FileMeanings F) (s : Shape) (d : ℕ) (name : List �
       ∙ ap (λ (places : Option (List Place)). option_map (with_places (g.name x.file) places) asked) new.no_places
       ∙ no_more (g.name x.file) asked
 
-  tell_fresh : (stores : List (StoreView F)) → All IsNew stores → map (λ f. is_some f.asked) (files_of g stores) ≡ replicate (length stores) (is_some asked)
-  tell_fresh [] all = refl
-  tell_fresh (x ∷ stores) all =
+  fresh_known : (stores : List (StoreView F)) → All IsNew stores → map (λ f. is_some f.asked) (files_of g stores) ≡ replicate (length stores) (is_some asked)
+  fresh_known [] all = refl
+  fresh_known (x ∷ stores) all =
       let new = All-head IsNew x stores all in
-      let first : is_some (g.asked x.file) ≡ is_some asked = ap (λ (places : Option (List Place)). is_some places) new.no_places ∙ told_alike [] asked in
+      let first : is_some (g.asked x.file) ≡ is_some asked = ap (λ (places : Option (List Place)). is_some places) new.no_places ∙ known_alike [] asked in
       ap (λ (b : Bool). b ∷ map (λ f. is_some f.asked) (files_of g stores)) first
-      ∙ ap (λ (bs : List Bool). is_some asked ∷ bs) (tell_fresh stores (All-tail IsNew x stores all)) where
-        told_alike : (none : List Place) (o : Option Asked) → is_some (option_map (λ (_ : Asked). none) o) ≡ is_some o
-        told_alike none None = refl
-        told_alike none (Some places) = refl
+      ∙ ap (λ (bs : List Bool). is_some asked ∷ bs) (fresh_known stores (All-tail IsNew x stores all)) where
+        known_alike : (none : List Place) (o : Option Asked) → is_some (option_map (λ (_ : Asked). none) o) ≡ is_some o
+        known_alike none None = refl
+        known_alike none (Some places) = refl
 
   named_fresh : (stores : List (StoreView F)) → All IsNew stores → IsSome asked → map (λ f. f.name) (files_of g stores) ≡ replicate (length stores) name
   named_fresh [] all some = refl
   named_fresh (x ∷ stores) all some =
       let new = All-head IsNew x stores all in
-      ap (λ (n : List ℕ). n ∷ map (λ f. f.name) (files_of g stores)) (told_name asked some new.named)
+      ap (λ (n : List ℕ). n ∷ map (λ f. f.name) (files_of g stores)) (known_name asked some new.named)
       ∙ ap (λ (ns : List (List ℕ)). name ∷ ns) (named_fresh stores (All-tail IsNew x stores all) some) where
-        told_name : (o : Option Asked) → IsSome o → OnSome o (g.name x.file ≡ name) → g.name x.file ≡ name
-        told_name None some named = absurd (false≢true some)
-        told_name (Some places) some named = named
+        known_name : (o : Option Asked) → IsSome o → OnSome o (g.name x.file ≡ name) → g.name x.file ≡ name
+        known_name None some named = absurd (false≢true some)
+        known_name (Some places) some named = named
 
   places_fresh : (stores : List (StoreView F)) → All IsNew stores → places_of (files_of g stores) ≡ []
   places_fresh [] all = refl
@@ -94,25 +94,25 @@ module _ {F : Type 0} (g : FileMeanings F) (s : Shape) (d : ℕ) (name : List �
       sum-one (g.faults x.file) (counts_of (files_of g stores)) in
       omega (arith, new.no_faults, counts_fresh stores (All-tail IsNew x stores all))
 
-  told_fresh : (stores : List (StoreView F)) → All IsNew stores → 1 ≤ length stores → told_by g stores ≡ told
-  told_fresh [] all some = absurd (omega (arith, some))
-  told_fresh (x ∷ stores) all some = (All-head IsNew x stores all).bytes
+  known_fresh : (stores : List (StoreView F)) → All IsNew stores → 1 ≤ length stores → known_bytes g stores ≡ known
+  known_fresh [] all some = absurd (omega (arith, some))
+  known_fresh (x ∷ stores) all some = (All-head IsNew x stores all).bytes
 
   -- so many stores that were just opened are those of so many loaders
   pub all_fresh : (loaders : ℕ) (stores : List (StoreView F)) → 1 ≤ loaders → length stores ≡ loaders → All IsNew stores
-      → AreFresh g s d loaders name asked told stores
+      → AreFresh g s d loaders name asked known stores
   all_fresh loaders stores some count all =
-      let same = told_fresh stores all (omega (arith, some, count)) in
+      let same = known_fresh stores all (omega (arith, some, count)) in
       record {
         stores_for = record {
           count = count;
           shapes = All-weaker IsNew (λ store. store.shape ≡ s) (λ x new. new.shape) stores all;
           depths = All-weaker IsNew (λ store. store.depth ≡ d) (λ x new. new.depth) stores all;
-          told = All-weaker IsNew (λ store. g.bytes store.file ≡ told_by g stores) (λ x new. new.bytes ∙ sym same) stores all;
+          known = All-weaker IsNew (λ store. g.bytes store.file ≡ known_bytes g stores) (λ x new. new.bytes ∙ sym same) stores all;
         };
-        told_is = same;
+        known_is = same;
         opened = record {
-          tell = tell_fresh stores all ∙ ap (λ n. replicate n (is_some asked)) count;
+          all_known = fresh_known stores all ∙ ap (λ n. replicate n (is_some asked)) count;
           named = λ is. named_fresh stores all is ∙ ap (λ n. replicate n name) count;
         };
         no_places = places_fresh stores all;

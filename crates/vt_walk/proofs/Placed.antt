@@ -22,7 +22,7 @@ use Rattle.vt_evict.proofs.FirstLemmas.{range-more}
 use Rattle.vt_walk_decisions.specs.Machines.{MachineState}
 use Rattle.vt_walk_decisions.specs.Passes.{with_placed}
 use Rattle.vt_walk_decisions.specs.Requests.{is_tile_at, times_planned}
-use Rattle.vt_walk.specs.Reads.{AreAskedFor, AreAskedAtMostFor, OnTold, lost_reads}
+use Rattle.vt_walk.specs.Reads.{AreAskedFor, AreAskedAtMostFor, OnKnown, lost_reads}
 use Rattle.vt_walk.specs.Placing.{with_changes, first_pinned, tile_place, with_tiles}
 use Rattle.vt_walk.proofs.Asking.{count_both}
 use Rattle.vt_walk.proofs.LostReads.{some_byte, same_factor}
@@ -99,7 +99,7 @@ tile_apart s d p q limits depth below same =
     let one : q ≡ p = same_factor q p (tile_length s d) (some_byte s d limits depth) (omega (arith, same)) in
     omega (arith, below, one)
 
--- what reading a page's tile asks, where its store is told otherwise
+-- what reading a page's tile asks, where its store is known otherwise
 pub asked_at : (s t : Shape) (d k p q : ℕ) (failed : Bool) (before after : Option (List Place)) → t ≡ s → k ≡ d → q ≡ p → TileAsked t k q failed before after
     → after ≡ option_map (noted (tile_start s d p) (tile_length s d) failed) before
 asked_at s t d k p q failed before after shape depth page asked =
@@ -149,22 +149,22 @@ module _ (s : Shape) (d pinned : ℕ) where
       subst (λ n. count_by t (range_with_len base k) ≤ count_by t (range_with_len base n)) whole (count_most t k (pinned - k))
 
   -- the tiles of all pinned pages were read
-  pub all_asked : (told now : Option (List Place)) → now ≡ with_tiles s d pinned pinned told → OnTold (AreAskedFor s d pinned [] []) told now
-  all_asked None now is = subst (λ (o : Option (List Place)). OnTold (AreAskedFor s d pinned [] []) None o) (sym is) tt
+  pub all_asked : (known now : Option (List Place)) → now ≡ with_tiles s d pinned pinned known → OnKnown (AreAskedFor s d pinned [] []) known now
+  all_asked None now is = subst (λ (o : Option (List Place)). OnKnown (AreAskedFor s d pinned [] []) None o) (sym is) tt
   all_asked (Some old) now is =
-      subst (λ (o : Option (List Place)). OnTold (AreAskedFor s d pinned [] []) (Some old) o) (sym is) (record {
+      subst (λ (o : Option (List Place)). OnKnown (AreAskedFor s d pinned [] []) (Some old) o) (sym is) (record {
         asked = λ at len. let none : times_planned s d [] at len ≡ 0 = refl in omega (arith, asked_by at len pinned old, none);
         failed = λ at len. let none : times_planned s d [] at len ≡ 0 = refl in omega (arith, failed_by at len pinned old, none);
       })
 
   -- the tiles of some pinned pages were read, and one more asked
-  pub last_asked : (count : ℕ) (failed : Bool) (told mid now : Option (List Place)) → count < pinned → mid ≡ with_tiles s d pinned count told
-      → now ≡ option_map (noted (tile_start s d (base + count)) (tile_length s d) failed) mid → OnTold (AreAskedAtMostFor s d pinned []) told now
+  pub last_asked : (count : ℕ) (failed : Bool) (known mid now : Option (List Place)) → count < pinned → mid ≡ with_tiles s d pinned count known
+      → now ≡ option_map (noted (tile_start s d (base + count)) (tile_length s d) failed) mid → OnKnown (AreAskedAtMostFor s d pinned []) known now
   last_asked count failed None mid now low before is =
-      subst (λ (o : Option (List Place)). OnTold (AreAskedAtMostFor s d pinned []) None o)
+      subst (λ (o : Option (List Place)). OnKnown (AreAskedAtMostFor s d pinned []) None o)
       (sym (is ∙ ap (option_map (noted (tile_start s d (base + count)) (tile_length s d) failed)) before)) tt
   last_asked count failed (Some old) mid now low before is =
-      subst (λ (o : Option (List Place)). OnTold (AreAskedAtMostFor s d pinned []) (Some old) o)
+      subst (λ (o : Option (List Place)). OnKnown (AreAskedAtMostFor s d pinned []) (Some old) o)
       (sym (is ∙ ap (option_map (noted (tile_start s d (base + count)) (tile_length s d) failed)) before))
       (λ at len. let none : times_planned s d [] at len ≡ 0 = refl in
       let last = count_both (is_read_of at len) (old ++ tiles count) (tile_place s d failed (base + count) ∷ []) in
@@ -181,10 +181,10 @@ module _ (s : Shape) (d pinned : ℕ) where
       ))
 
   -- one more tile was read
-  pub more_tiles : (count : ℕ) (told mid now : Option (List Place)) → mid ≡ with_tiles s d pinned count told
-      → now ≡ option_map (noted (tile_start s d (base + count)) (tile_length s d) false) mid → now ≡ with_tiles s d pinned (count + 1) told
-  more_tiles count told mid now before is =
-      is ∙ ap (option_map (noted (tile_start s d (base + count)) (tile_length s d) false)) before ∙ joined told where
+  pub more_tiles : (count : ℕ) (known mid now : Option (List Place)) → mid ≡ with_tiles s d pinned count known
+      → now ≡ option_map (noted (tile_start s d (base + count)) (tile_length s d) false) mid → now ≡ with_tiles s d pinned (count + 1) known
+  more_tiles count known mid now before is =
+      is ∙ ap (option_map (noted (tile_start s d (base + count)) (tile_length s d) false)) before ∙ joined known where
         joined : (o : Option (List Place)) → option_map (noted (tile_start s d (base + count)) (tile_length s d) false)
             (with_tiles s d pinned count o) ≡ with_tiles s d pinned (count + 1) o
         joined None = refl
@@ -192,23 +192,23 @@ module _ (s : Shape) (d pinned : ℕ) where
             ∙ ap (λ (places : List Place). old ++ places) (sym (map-range_with_len_more (tile_place s d false) base count (base + count) refl)))
 
   -- no lost tile was read
-  pub none_lost : (count : ℕ) (told now : Option (List Place)) → now ≡ with_tiles s d pinned count told
-      → OnTold (λ old new. lost_reads s d pinned new ≡ lost_reads s d pinned old) told now
-  none_lost count None now is = subst (λ (o : Option (List Place)). OnTold (λ old new. lost_reads s d pinned new ≡ lost_reads s d pinned old) None o)
+  pub none_lost : (count : ℕ) (known now : Option (List Place)) → now ≡ with_tiles s d pinned count known
+      → OnKnown (λ old new. lost_reads s d pinned new ≡ lost_reads s d pinned old) known now
+  none_lost count None now is = subst (λ (o : Option (List Place)). OnKnown (λ old new. lost_reads s d pinned new ≡ lost_reads s d pinned old) None o)
       (sym is) tt
   none_lost count (Some old) now is =
-      subst (λ (o : Option (List Place)). OnTold (λ old new. lost_reads s d pinned new ≡ lost_reads s d pinned old) (Some old) o) (sym is)
+      subst (λ (o : Option (List Place)). OnKnown (λ old new. lost_reads s d pinned new ≡ lost_reads s d pinned old) (Some old) o) (sym is)
       (same_sum (λ p. times_failed (tile_start s d p) (tile_length s d) (old ++ tiles count)) (λ p. times_failed (tile_start s d p) (tile_length s d) old) base
       (λ p below. failed_by (tile_start s d p) (tile_length s d) count old))
 
-  pub last_lost : (count : ℕ) (failed : Bool) (told mid now : Option (List Place)) → IsWithinLimits s → IsDepth d → mid ≡ with_tiles s d pinned count told
+  pub last_lost : (count : ℕ) (failed : Bool) (known mid now : Option (List Place)) → IsWithinLimits s → IsDepth d → mid ≡ with_tiles s d pinned count known
       → now ≡ option_map (noted (tile_start s d (base + count)) (tile_length s d) failed) mid
-      → OnTold (λ old new. lost_reads s d pinned new ≡ lost_reads s d pinned old) told now
+      → OnKnown (λ old new. lost_reads s d pinned new ≡ lost_reads s d pinned old) known now
   last_lost count failed None mid now limits depth before is =
-      subst (λ (o : Option (List Place)). OnTold (λ old new. lost_reads s d pinned new ≡ lost_reads s d pinned old) None o)
+      subst (λ (o : Option (List Place)). OnKnown (λ old new. lost_reads s d pinned new ≡ lost_reads s d pinned old) None o)
       (sym (is ∙ ap (option_map (noted (tile_start s d (base + count)) (tile_length s d) failed)) before)) tt
   last_lost count failed (Some old) mid now limits depth before is =
-      subst (λ (o : Option (List Place)). OnTold (λ old new. lost_reads s d pinned new ≡ lost_reads s d pinned old) (Some old) o)
+      subst (λ (o : Option (List Place)). OnKnown (λ old new. lost_reads s d pinned new ≡ lost_reads s d pinned old) (Some old) o)
       (sym (is ∙ ap (option_map (noted (tile_start s d (base + count)) (tile_length s d) failed)) before))
       (same_sum (λ p. times_failed (tile_start s d p) (tile_length s d) (noted (tile_start s d (base + count)) (tile_length s d) failed (old ++ tiles count)))
       (λ p. times_failed (tile_start s d p) (tile_length s d) old) base (λ p below. same p below)) where

@@ -17,15 +17,15 @@ use Rattle.vt_journal.proofs.ByParts.{lawful_by_parts}
 use Rattle.vt_feedback.specs.declared.Wanted.{Wanted}
 use Rattle.vt_feedback.specs.Wants.{IsWants}
 use Rattle.vt_evict.specs.PlanTypes.batches.Planned.{Planned}
-use Rattle.vt_plan.specs.Views.{RecencyView, IsTable, first_view, touched}
-use Rattle.vt_evict.specs.Batches.{IsLawful, IsFree, IsVictim}
+use Rattle.vt_plan.specs.Views.{RecencyView, IsRecencyTable, first_view, touched}
+use Rattle.vt_evict.specs.Batches.{IsLawfulBatch, IsFreePage, IsVictim}
 use Rattle.vt_evict.proofs.FirstLemmas.{range-more, first_table}
 use Rattle.vt_evict.proofs.TouchLemmas.{touched_table}
 use Rattle.vt_evict.proofs.LawfulLemmas.{plan_lawful, plan_count}
 use Rattle.vt_walk_decisions.specs.Outcomes.{IsBatchFor}
 use Rattle.vt_walk.specs.Fits.{WalkSetup}
-use Rattle.vt_walk.specs.Runs.{WalkPass, IsWalkSetup, journal_after, recency_after, plan_after, IsNextPass, IsRun}
-use Rattle.vt_walk.specs.Agreements.{entry_of, Agrees}
+use Rattle.vt_walk.specs.Runs.{WalkPass, IsWalkSetup, journal_after, recency_after, plan_after, IsNextPass, IsWalkRun}
+use Rattle.vt_walk.specs.Agreements.{entry_number_of, RecencyAgrees}
 use Rattle.vt_walk.proofs.Agreeing.{may_be_run}
 use Rattle.vt_walk.proofs.Eventing.{HasUnpinnedVictim, outcome_follows, events_in_turn}
 use Rattle.vt_walk.proofs.Settling.{AgreesOn, settled_agrees}
@@ -39,7 +39,7 @@ past [] k few = refl
 past (x ∷ xs) zero few = absurd (omega (arith, few))
 past (x ∷ xs) (suc k) few = past xs k (omega (arith, few))
 
-push_agrees : (xs : List ℕ) (m : Table) (o : Option ℕ) (x page : ℕ) → x ≡ entry_of o → page ≡ length xs → AgreesOn xs m
+push_agrees : (xs : List ℕ) (m : Table) (o : Option ℕ) (x page : ℕ) → x ≡ entry_number_of o → page ≡ length xs → AgreesOn xs m
     → AgreesOn (xs ++ x ∷ []) (with_entry m page o)
 push_agrees xs m o x page is at agrees p = pick (same_page p page) where
   beside : (p < length xs) ⊎ (length xs ≤ p) → p ≢ page → get_or (xs ++ x ∷ []) p 0 ≡ get_or xs p 0
@@ -49,10 +49,10 @@ push_agrees xs m o x page is at agrees p = pick (same_page p page) where
     beyond (inl past) = past
     beyond (inr most) = absurd (other (omega (arith, most, above, at)))
 
-  pick : (p ≡ page) ⊎ (p ≢ page) → get_or (xs ++ x ∷ []) p 0 ≡ entry_of (with_entry m page o p)
+  pick : (p ≡ page) ⊎ (p ≢ page) → get_or (xs ++ x ∷ []) p 0 ≡ entry_number_of (with_entry m page o p)
   pick (inl same) = ap (λ k. get_or (xs ++ x ∷ []) k 0) (same ∙ at) ∙ at_seam xs x ∙ is
-      ∙ ap entry_of (sym (ap (with_entry m page o) same ∙ entry-same m page o))
-  pick (inr other) = beside (cases_lt p (length xs)) other ∙ agrees p ∙ ap entry_of (sym (entry-other m page p o other))
+      ∙ ap entry_number_of (sym (ap (with_entry m page o) same ∙ entry-same m page o))
+  pick (inr other) = beside (cases_lt p (length xs)) other ∙ agrees p ∙ ap entry_number_of (sym (entry-other m page p o other))
 
 abbrev no_entries : ℕ → List ℕ
 no_entries n = replicate n 0
@@ -74,7 +74,7 @@ length-range a (suc n) = ap suc (length-range (a + 1) n)
 pinned_agree : (s : Shape) (pinned n : ℕ) → AgreesOn (replicate (pages_of s - pinned) 0
     ++ range_with_len 1 n) (newest (map (pinned_change s pinned) (range_with_len 0 n)))
 pinned_agree s pinned zero = λ p. ap (λ (xs : List ℕ). get_or xs p 0) (append-nil (replicate (pages_of s - pinned) 0)) ∙ zeros (pages_of s - pinned) p
-    ∙ ap entry_of (sym (newest-none p))
+    ∙ ap entry_number_of (sym (newest-none p))
 pinned_agree s pinned (suc n) =
     let next : suc n ≡ n + 1 = omega arith in
     let front = replicate (pages_of s - pinned) 0 in
@@ -94,7 +94,7 @@ pinned_agree s pinned (suc n) =
     (subst (λ (xs : List ℕ). AgreesOn xs (changed (newest (map (pinned_change s pinned) (range_with_len 0 n))) (Map (pages_of s - pinned + n) n)))
     (sym entries) pushed)
 
-first_agrees : (s : Shape) (frames pinned : ℕ) → Agrees (first_view s frames pinned) (newest (pinned_changes s pinned))
+first_agrees : (s : Shape) (frames pinned : ℕ) → RecencyAgrees (first_view s frames pinned) (newest (pinned_changes s pinned))
 unfolding first_view
 first_agrees s frames pinned = pinned_agree s pinned pinned
 
@@ -111,14 +111,14 @@ head_in_turn w h = subst AreInTurn (append-nil (pinned_changes w.shape w.pinned)
 
 -- what is kept along a run
 pub record IsKept (w : WalkSetup) (passes : List WalkPass) : Type 0 where
-  pub table : IsTable (recency_after w passes)
-  pub agrees : Agrees (recency_after w passes) (newest (journal_after w passes))
+  pub table : IsRecencyTable (recency_after w passes)
+  pub agrees : RecencyAgrees (recency_after w passes) (newest (journal_after w passes))
   pub step : AreInTurn (journal_after w passes)
   pub shape : (recency_after w passes).shape ≡ w.shape
   pub frames : (recency_after w passes).frames ≡ w.frames
   pub pinned : (recency_after w passes).pinned ≡ w.pinned
 
-lawful_none : (v : RecencyView) → IsLawful v []
+lawful_none : (v : RecencyView) → IsLawfulBatch v []
 lawful_none v = record { each = λ k d inside. absurd (omega (arith, inside)); apart = λ j k d before inside. absurd (omega (arith, inside)) }
 
 contained : (wants : List Wanted) (k : ℕ) (d : Wanted) → k < length wants → Contains wants (slice_index_or wants k d)
@@ -130,32 +130,32 @@ wants_inside s t pixels wants same wanted k d inside =
     subst (λ x. (slice_index_or wants k d).page < pages_of x) (sym same) here.inside
 
 -- what was planned is lawful
-plan_is_lawful : (w : WalkSetup) (passes : List WalkPass) → IsRun w passes → IsKept w passes → IsLawful (recency_after w passes) (plan_after w passes)
+plan_is_lawful : (w : WalkSetup) (passes : List WalkPass) → IsWalkRun w passes → IsKept w passes → IsLawfulBatch (recency_after w passes) (plan_after w passes)
 plan_is_lawful w [] run kept = lawful_none (first_view w.shape w.frames w.pinned)
 plan_is_lawful w (p ∷ passes) run kept =
     plan_lawful (touched p.settled p.wants) p.wants w.most kept.table (wants_inside p.settled.shape w.shape (w.needs p.picture) p.wants kept.shape run.1.wanted)
 
-pub unpinned_victims : (w : WalkSetup) (v : RecencyView) (batch : List Planned) → v.shape ≡ w.shape → v.pinned ≡ w.pinned → IsLawful v batch
+pub unpinned_victims : (w : WalkSetup) (v : RecencyView) (batch : List Planned) → v.shape ≡ w.shape → v.pinned ≡ w.pinned → IsLawfulBatch v batch
     → All (HasUnpinnedVictim w.shape w.pinned) batch
 unpinned_victims w v batch shape pinned laws k d inside = by_victim (slice_index_or batch k d).victim (laws.each k d inside).place where
-  by_victim : (o : Option ℕ) → MatchOption o (IsFree v.entries (slice_index_or batch k d).frame) (IsVictim v (slice_index_or batch k d).frame)
+  by_victim : (o : Option ℕ) → MatchOption o (IsFreePage v.entries (slice_index_or batch k d).frame) (IsVictim v (slice_index_or batch k d).frame)
       → MatchOption o (Unit {0}) (λ q. q + w.pinned < pages_of w.shape)
   by_victim None free = tt
   by_victim (Some q) is = let at : pages_of v.shape ≡ pages_of w.shape = ap pages_of shape in omega (arith, is.unpinned, at, pinned)
 
 -- a pass that may come next is lawful for its tables
-pub batch_is_lawful : (w : WalkSetup) (passes : List WalkPass) (batch : List Planned) → IsRun w passes → IsKept w passes → batch ≡ plan_after w passes
-    → IsLawful (recency_after w passes) batch
-batch_is_lawful w passes batch run kept is = subst (IsLawful (recency_after w passes)) (sym is) (plan_is_lawful w passes run kept)
+pub batch_is_lawful : (w : WalkSetup) (passes : List WalkPass) (batch : List Planned) → IsWalkRun w passes → IsKept w passes → batch ≡ plan_after w passes
+    → IsLawfulBatch (recency_after w passes) batch
+batch_is_lawful w passes batch run kept is = subst (IsLawfulBatch (recency_after w passes)) (sym is) (plan_is_lawful w passes run kept)
 
-pub batch_may_be_run : (w : WalkSetup) (passes : List WalkPass) (batch : List Planned) → IsRun w passes → IsKept w passes → batch ≡ plan_after w passes
+pub batch_may_be_run : (w : WalkSetup) (passes : List WalkPass) (batch : List Planned) → IsWalkRun w passes → IsKept w passes → batch ≡ plan_after w passes
     → IsBatchFor w.shape w.frames (newest (journal_after w passes)) batch
 batch_may_be_run w passes batch run kept is =
     let b = may_be_run (recency_after w passes) (newest (journal_after w passes)) batch kept.table kept.agrees (batch_is_lawful w passes batch run kept is) in
     subst (λ (x : Shape × ℕ). IsBatchFor x.0 x.1 (newest (journal_after w passes)) batch) (λ i. (kept.shape i, kept.frames i)) b
 
 -- what is kept as a pass is done
-kept_more : (w : WalkSetup) (p : WalkPass) (passes : List WalkPass) → IsWalkSetup w → IsRun w passes → IsNextPass w passes p → IsKept w passes
+kept_more : (w : WalkSetup) (p : WalkPass) (passes : List WalkPass) → IsWalkSetup w → IsWalkRun w passes → IsNextPass w passes p → IsKept w passes
     → IsKept w (p ∷ passes)
 kept_more w p passes h run next kept =
     let laws = batch_is_lawful w passes p.batch run kept next.planned in
@@ -183,7 +183,7 @@ kept_none w h = record {
   pinned = refl;
 }
 
-pub run_kept : (w : WalkSetup) (passes : List WalkPass) → IsWalkSetup w → IsRun w passes → IsKept w passes
+pub run_kept : (w : WalkSetup) (passes : List WalkPass) → IsWalkSetup w → IsWalkRun w passes → IsKept w passes
 run_kept w [] h run = kept_none w h
 run_kept w (p ∷ passes) h run = kept_more w p passes h run.0 run.1 (run_kept w passes h run.0)
 

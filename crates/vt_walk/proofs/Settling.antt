@@ -17,33 +17,33 @@ use Rattle.vt_journal.specs.JournalText.{changes_of}
 use Rattle.vt_journal.proofs.Versions.{newest-more, entry-same, entry-other, same_page}
 use Rattle.vt_journal.proofs.EventLines.{changes_of-append}
 use Rattle.vt_evict.specs.PlanTypes.batches.Planned.{Planned}
-use Rattle.vt_plan.specs.Views.{RecencyView, IsTable}
-use Rattle.vt_evict.specs.Batches.{IsLawful, IsLawfulEntry, IsFree, IsVictim, IsSettled, IsSettledTable, read_entries, is_read, is_victim}
+use Rattle.vt_plan.specs.Views.{RecencyView, IsRecencyTable}
+use Rattle.vt_evict.specs.Batches.{IsLawfulBatch, IsLawfulEntry, IsFreePage, IsVictim, IsSettledByReads, IsSettledTable, read_entries, is_read, is_victim}
 use Rattle.vt_evict.specs.Kept.{applied, without_victim}
 use Rattle.vt_evict.proofs.PlanListLemmas.{nat_eq_true}
 use Rattle.vt_evict.proofs.SettleLemmas.{applied_some, applied_none, settle_step, nothing_read, contains_tail}
 use Rattle.vt_walk_decisions.specs.Outcomes.{victim_events, group_of, group_if, group_at, pass_events, IsOutcome}
 use Rattle.vt_walk_decisions.proofs.AnyOrder.{any_order}
-use Rattle.vt_walk.specs.Agreements.{entry_of, Agrees}
+use Rattle.vt_walk.specs.Agreements.{entry_number_of, RecencyAgrees}
 use Rattle.vt_walk.proofs.Agreeing.{may_be_run}
 
 -- entries agree with a table
 abbrev pub AgreesOn : List ℕ → Table → Type 0
-AgreesOn entries m = (p : ℕ) → slice_index entries p ≡ entry_of (m p)
+AgreesOn entries m = (p : ℕ) → slice_index entries p ≡ entry_number_of (m p)
 
 set_agrees : (entries : List ℕ) (m : Table) (page : ℕ) (o : Option ℕ) → page < length entries → AgreesOn entries m
-    → AgreesOn (slice_set entries page (entry_of o)) (with_entry m page o)
+    → AgreesOn (slice_set entries page (entry_number_of o)) (with_entry m page o)
 set_agrees entries m page o inside agrees p = pick (same_page p page) where
-  pick : (p ≡ page) ⊎ (p ≢ page) → slice_index (slice_set entries page (entry_of o)) p ≡ entry_of (with_entry m page o p)
-  pick (inl same) = get_or-set_at entries page p (entry_of o) 0 same inside ∙ ap entry_of (sym (ap (with_entry m page o) same ∙ entry-same m page o))
-  pick (inr other) = get_or-set_other entries page p (entry_of o) 0 other ∙ agrees p ∙ ap entry_of (sym (entry-other m page p o other))
+  pick : (p ≡ page) ⊎ (p ≢ page) → slice_index (slice_set entries page (entry_number_of o)) p ≡ entry_number_of (with_entry m page o p)
+  pick (inl same) = get_or-set_at entries page p (entry_number_of o) 0 same inside ∙ ap entry_number_of (sym (ap (with_entry m page o) same ∙ entry-same m page o))
+  pick (inr other) = get_or-set_other entries page p (entry_number_of o) 0 other ∙ agrees p ∙ ap entry_number_of (sym (entry-other m page p o other))
 
 -- an entry that was read
-applied_agrees : (v : RecencyView) (ks : List Change) (e : Planned) → IsTable v → IsLawfulEntry v e → Agrees v (newest ks)
-    → Agrees (applied v e) (newest (ks ++ changes_of (group_of e false)))
+applied_agrees : (v : RecencyView) (ks : List Change) (e : Planned) → IsRecencyTable v → IsLawfulEntry v e → RecencyAgrees v (newest ks)
+    → RecencyAgrees (applied v e) (newest (ks ++ changes_of (group_of e false)))
 unfolding applied
 applied_agrees v ks e table l agrees = by_victim e.victim l.place where
-  by_victim : (o : Option ℕ) → MatchOption o (IsFree v.entries e.frame) (IsVictim v e.frame)
+  by_victim : (o : Option ℕ) → MatchOption o (IsFreePage v.entries e.frame) (IsVictim v e.frame)
       → AgreesOn (slice_set (without_victim v.entries o) e.page (e.frame + 1)) (newest (ks
       ++ changes_of (victim_events o e.frame ++ Changed (Map e.page e.frame) ∷ [])))
   by_victim None free =
@@ -59,18 +59,18 @@ applied_agrees v ks e table l agrees = by_victim e.victim l.place where
       ap newest (sym (append_assoc ks (Unmap q e.frame ∷ []) (Map e.page e.frame ∷ []))) ∙ newest-more (ks ++ Unmap q e.frame ∷ []) (Map e.page e.frame) in
       subst (AgreesOn (slice_set (slice_set v.entries q 0) e.page (e.frame + 1))) (sym (both ∙ ap (λ (m : Table). changed m (Map e.page e.frame)) first)) two
 
-applied_table : (v : RecencyView) (e : Planned) → IsTable v → IsLawfulEntry v e → IsTable (applied v e)
+applied_table : (v : RecencyView) (e : Planned) → IsRecencyTable v → IsLawfulEntry v e → IsRecencyTable (applied v e)
 applied_table v e table l = by_victim e.victim refl where
-  by_victim : (o : Option ℕ) → e.victim ≡ o → IsTable (applied v e)
-  by_victim None is = let a = applied_none v e _ table l is refl in subst IsTable a.view a.table
-  by_victim (Some q) is = let a = applied_some v e q _ table l is refl in subst IsTable a.view a.table
+  by_victim : (o : Option ℕ) → e.victim ≡ o → IsRecencyTable (applied v e)
+  by_victim None is = let a = applied_none v e _ table l is refl in subst IsRecencyTable a.view a.table
+  by_victim (Some q) is = let a = applied_some v e q _ table l is refl in subst IsRecencyTable a.view a.table
 
-step_agrees : (b : Bool) (v : RecencyView) (ks : List Change) (e : Planned) → IsTable v → IsLawfulEntry v e → Agrees v (newest ks)
-    → Agrees (cond b v (applied v e)) (newest (ks ++ changes_of (group_of e b)))
-step_agrees true v ks e table l agrees = subst (λ (js : List Change). Agrees v (newest js)) (sym (append-nil ks)) agrees
+step_agrees : (b : Bool) (v : RecencyView) (ks : List Change) (e : Planned) → IsRecencyTable v → IsLawfulEntry v e → RecencyAgrees v (newest ks)
+    → RecencyAgrees (cond b v (applied v e)) (newest (ks ++ changes_of (group_of e b)))
+step_agrees true v ks e table l agrees = subst (λ (js : List Change). RecencyAgrees v (newest js)) (sym (append-nil ks)) agrees
 step_agrees false v ks e table l agrees = applied_agrees v ks e table l agrees
 
-step_table : (b : Bool) (v : RecencyView) (e : Planned) → IsTable v → IsLawfulEntry v e → IsTable (cond b v (applied v e))
+step_table : (b : Bool) (v : RecencyView) (e : Planned) → IsRecencyTable v → IsLawfulEntry v e → IsRecencyTable (cond b v (applied v e))
 step_table true v e table l = table
 step_table false v e table l = applied_table v e table l
 
@@ -89,10 +89,10 @@ down_is j (suc m) =
 -- the entries from one on are settled, and agree with the journal
 record IsSettledFrom (old : RecencyView) (js : List Change) (batch : List Planned) (losses : List Bool) (j m : ℕ) : Type 0 where
   pub now : RecencyView
-  pub settled : IsSettled old (read_entries (drop j batch) (drop j losses)) now
-  pub table : IsTable now
+  pub settled : IsSettledByReads old (read_entries (drop j batch) (drop j losses)) now
+  pub table : IsRecencyTable now
   pub lawful : (i : ℕ) (d : Planned) → i < j → IsLawfulEntry now (get_or batch i d)
-  pub agrees : Agrees now (newest (js ++ changes_of (pass_events batch losses (down_to j m))))
+  pub agrees : RecencyAgrees now (newest (js ++ changes_of (pass_events batch losses (down_to j m))))
 
 more_changes : (js : List Change) (batch : List Planned) (losses : List Bool) (xs : List ℕ) (j : ℕ) (e : Planned) → slice_get batch j ≡ Some e
     → js ++ changes_of (pass_events batch losses (xs ++ j ∷ [])) ≡ (js ++ changes_of (pass_events batch losses xs))
@@ -104,18 +104,18 @@ more_changes js batch losses xs j e at =
     ∙ ap (λ (cs : List Change). js ++ cs) (changes_of-append (pass_events batch losses xs) (group_of e (slice_index_or losses j true)))
     ∙ sym (append_assoc js (changes_of (pass_events batch losses xs)) (changes_of (group_of e (slice_index_or losses j true))))
 
-settled_from : (old : RecencyView) (js : List Change) (batch : List Planned) (losses : List Bool) (m j : ℕ) → IsTable old → IsLawful old batch
+settled_from : (old : RecencyView) (js : List Change) (batch : List Planned) (losses : List Bool) (m j : ℕ) → IsRecencyTable old → IsLawfulBatch old batch
     → length losses ≡ length batch
-    → Agrees old (newest js) → j + m ≡ length batch → IsSettledFrom old js batch losses j m
+    → RecencyAgrees old (newest js) → j + m ≡ length batch → IsSettledFrom old js batch losses j m
 unfolding down_to
 settled_from old js batch losses zero j table laws lengths agrees all =
     let at_end : length batch ≡ j = omega (arith, all) in
     record {
       now = old;
-      settled = subst (λ k. IsSettled old (read_entries (drop k batch) (drop k losses)) old) at_end (nothing_read old batch losses);
+      settled = subst (λ k. IsSettledByReads old (read_entries (drop k batch) (drop k losses)) old) at_end (nothing_read old batch losses);
       table = table;
       lawful = λ i d below. laws.each i d (omega (arith, below, at_end));
-      agrees = subst (λ (ks : List Change). Agrees old (newest ks)) (sym (append-nil js)) agrees;
+      agrees = subst (λ (ks : List Change). RecencyAgrees old (newest ks)) (sym (append-nil js)) agrees;
     }
 settled_from old js batch losses (suc m) j table laws lengths agrees all =
     let r = settled_from old js batch losses m (suc j) table laws lengths agrees (omega (arith, all)) in
@@ -132,7 +132,7 @@ settled_from old js batch losses (suc m) j table laws lengths agrees all =
       settled = step.settled;
       table = step_table b r.now e r.table mine;
       lawful = step.lawful;
-      agrees = subst (λ (ks : List Change). Agrees (cond b r.now (applied r.now e)) (newest ks))
+      agrees = subst (λ (ks : List Change). RecencyAgrees (cond b r.now (applied r.now e)) (newest ks))
           (sym (more_changes js batch losses (down_to (suc j) m) j e (slice_get-get_or batch j d inside)))
           (step_agrees b r.now (js ++ changes_of (pass_events batch losses (down_to (suc j) m))) e r.table mine r.agrees);
     }
@@ -166,7 +166,7 @@ same_entries a b count each = same_lists a b
     (λ k inside. slice_get-get_or a k 0 (omega (arith, inside, count)) ∙ ap Some (each k)
     ∙ sym (slice_get-get_or b k 0 inside)) (past a (length b) (omega (arith, count)))
 
-pub settled_one : (old a b : RecencyView) (reads : List Planned) → IsSettled old reads a → IsSettled old reads b → a ≡ b
+pub settled_one : (old a b : RecencyView) (reads : List Planned) → IsSettledByReads old reads a → IsSettledByReads old reads b → a ≡ b
 settled_one old a b reads one two =
     let entries : a.entries ≡ b.entries = same_entries a.entries b.entries (one.table.same_length
     ∙ sym two.table.same_length) (settled_entries old.entries reads a.entries b.entries one.table two.table) in
@@ -180,17 +180,17 @@ settled_one old a b reads one two =
 
 -- what a pass leaves: a table, which agrees with the journal
 pub record IsKeptUp (new : RecencyView) (js : List Change) : Type 0 where
-  pub table : IsTable new
-  pub agrees : Agrees new (newest js)
+  pub table : IsRecencyTable new
+  pub agrees : RecencyAgrees new (newest js)
 
-pub settled_agrees : (old new : RecencyView) (js : List Change) (batch : List Planned) (losses : List Bool) (events : List Event) → IsTable old
-    → Agrees old (newest js) → IsLawful old batch
-    → IsOutcome batch losses events → IsSettled old (read_entries batch losses) new → IsKeptUp new (js ++ changes_of events)
+pub settled_agrees : (old new : RecencyView) (js : List Change) (batch : List Planned) (losses : List Bool) (events : List Event) → IsRecencyTable old
+    → RecencyAgrees old (newest js) → IsLawfulBatch old batch
+    → IsOutcome batch losses events → IsSettledByReads old (read_entries batch losses) new → IsKeptUp new (js ++ changes_of events)
 settled_agrees old new js batch losses events table agrees laws outcome settled =
-    let r = settled_from old js batch losses (length batch) 0 table laws outcome.told agrees (omega arith) in
+    let r = settled_from old js batch losses (length batch) 0 table laws outcome.reported agrees (omega arith) in
     let same : r.now ≡ new = settled_one old r.now new (read_entries batch losses) r.settled settled in
     let other : IsOutcome batch losses (pass_events batch losses (down_to 0 (length batch))) = record {
-      told = outcome.told;
+      reported = outcome.reported;
       order = down_to 0 (length batch);
       each_once = subst (IsPermutation (range_with_len 0 (length batch))) (down_is 0 (length batch)) (IsPermutation-reverse (range_with_len 0 (length batch)));
       groups = refl;
@@ -198,7 +198,7 @@ settled_agrees old new js batch losses events table agrees laws outcome settled 
     let tables = any_order old.shape old.frames js batch losses events (pass_events batch losses (down_to 0 (length batch)))
     (may_be_run old (newest js) batch table agrees laws) outcome other in
     record {
-      table = subst IsTable same r.table;
-      agrees = subst (Agrees new) (sym tables) (subst (λ (v : RecencyView). Agrees v
+      table = subst IsRecencyTable same r.table;
+      agrees = subst (RecencyAgrees new) (sym tables) (subst (λ (v : RecencyView). RecencyAgrees v
           (newest (js ++ changes_of (pass_events batch losses (down_to 0 (length batch)))))) same r.agrees);
     }

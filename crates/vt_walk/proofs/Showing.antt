@@ -14,7 +14,7 @@ use Rattle.vt_walk_decisions.specs.Machines.{MachineState}
 use Rattle.vt_walk_decisions.specs.Passes.{IsPictured}
 use Rattle.vt_walk_decisions.specs.Replays.{HasPixels}
 use Rattle.vt_walk.specs.Fits.{WalkSetup}
-use Rattle.vt_walk.specs.Runs.{WalkPass, journal_after, IsRun}
+use Rattle.vt_walk.specs.Runs.{WalkPass, journal_after, IsWalkRun}
 use Rattle.vt_walk.specs.Shown.{last_rows, run_through, IsRunPicture}
 use Rattle.vt_walk.specs.Logs.{passes_of, picture_line, picture_lines}
 
@@ -42,7 +42,7 @@ pub through_after : (b : Bool) (p : WalkPass) (passes : List WalkPass) (picture 
 through_after b p passes picture is = ap (λ (t : Bool). if t then p ∷ passes else run_through passes picture) is
 
 -- a row names a version that the journal has
-rows_known : (w : WalkSetup) (passes : List WalkPass) (picture y : ℕ) (row : RowLine) → IsRun w passes
+rows_known : (w : WalkSetup) (passes : List WalkPass) (picture y : ℕ) (row : RowLine) → IsWalkRun w passes
     → slice_get (last_rows passes picture) y ≡ Some row → row.version ≤ length (journal_after w passes)
 rows_known w [] picture y row run is = absurd (none_some row is) where
   none_some : (row : RowLine) → None ≡ Some row → ⊥
@@ -57,7 +57,7 @@ rows_known w (p ∷ passes) picture y row run is = pick (p.picture == picture) r
       omega (arith, few, length-append (journal_after w passes) (changes_of p.events))
 
 pub picture_stays : (w : WalkSetup) (p : WalkPass) (passes : List WalkPass) (d width : ℕ) (pixel : Table → ℕ → ℕ → ℕ → List ℕ) (picture : ℕ) (samples : List ℕ)
-    → IsRun w passes → p.picture ≢ picture → IsRunPicture w passes d width pixel picture samples → IsRunPicture w (p ∷ passes) d width pixel picture samples
+    → IsWalkRun w passes → p.picture ≢ picture → IsRunPicture w passes d width pixel picture samples → IsRunPicture w (p ∷ passes) d width pixel picture samples
 picture_stays w p passes d width pixel picture samples run other shown =
     let same : last_rows (p ∷ passes) picture ≡ last_rows passes picture = rows_after false p passes picture (other_number p.picture picture other) in
     record {
@@ -80,9 +80,9 @@ pub picture_drawn : (w : WalkSetup) (p : WalkPass) (passes : List WalkPass) (dra
     → s.setup.bytes ≡ Some b
     → s.setup.height ≡ w.height → s.journal ≡ journal_after w (p ∷ passes) → job.picture ≡ p.picture
     → IsRunPicture w (p ∷ passes) s.setup.depth s.setup.width (draws.shows job.scene b) p.picture (concat s.rows)
-picture_drawn w p passes draws drawn job s b pictured told height journal picture =
+picture_drawn w p passes draws drawn job s b pictured known height journal picture =
     let own : last_rows (p ∷ passes) p.picture ≡ p.rows = rows_after true p passes p.picture (self_number p.picture) in
-    let replayed = if_some s.setup.bytes b _ told pictured.replayed in
+    let replayed = if_some s.setup.bytes b _ known pictured.replayed in
     record {
       rows = s.rows;
       count = pictured.count ∙ height;

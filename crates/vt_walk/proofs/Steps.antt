@@ -7,7 +7,7 @@ use Rattle.std.proofs.lemmas.Grind.{flat_map-append}
 use Rattle.vt_outside.specs.Counts.{RoseBy}
 use Rattle.vt_outside.specs.Files.{Files, with_bytes, with_appended, gained, IsThere}
 use Rattle.vt_outside.specs.declared.place.Place.{Place}
-use Rattle.vt_outside.proofs.Changes.{told-bytes-appended}
+use Rattle.vt_outside.proofs.Changes.{known-bytes-appended}
 use Rattle.vt_journal.specs.JournalText.{pass_text}
 use Rattle.vt_pages.specs.Shape.{Shape}
 use Rattle.vt_pictures.specs.Names.{picture_name}
@@ -15,52 +15,52 @@ use Rattle.vt_evict.proofs.FirstLemmas.{range-more}
 use Rattle.vt_walk_decisions.specs.Outcomes.{lost_count}
 use Rattle.vt_walk_decisions.specs.Requests.{lost_entries}
 use Rattle.vt_walk.specs.DrawnBy.{PictureDrawn}
-use Rattle.vt_walk.specs.Runs.{WalkPass, IsRun, IsNextPass, IsFinished, journal_after, run_text, told_of, planned_in, lost_in}
+use Rattle.vt_walk.specs.Runs.{WalkPass, IsWalkRun, IsNextPass, IsFinished, journal_after, run_text, content_pass, planned_in, lost_in}
 use Rattle.vt_walk.specs.Logs.{picture_line, picture_lines}
 use Rattle.vt_walk.specs.Shown.{last_rows, IsRunPicture}
 use Rattle.vt_walk.specs.Walks.{WalkGiven, WalkNames}
 use Rattle.vt_walk.specs.Folders.{with_walk, with_pictures, IsApart}
 use Rattle.vt_walk.specs.States.{WalkState}
-use Rattle.vt_walk.specs.Reads.{AreAskedFor, OnTold}
+use Rattle.vt_walk.specs.Reads.{AreAskedFor, OnKnown}
 use Rattle.vt_walk.specs.Written.{IsWritten, AreWritten}
 use Rattle.vt_walk.specs.Standing.{Stands}
 use Rattle.vt_walk.proofs.Asking.{planned_more, lost_more, losses_more}
-use Rattle.vt_walk.proofs.Asks.{told_twice}
+use Rattle.vt_walk.proofs.Asks.{known_twice}
 use Rattle.vt_walk.proofs.Showing.{picture_stays, lines_stay, other_number, rows_after, through_after}
-use Rattle.vt_walk.proofs.Telling.{text_grows}
+use Rattle.vt_walk.proofs.RunContents.{text_grows}
 use Rattle.vt_walk.proofs.Apart.{other_name, either_first, there_stays}
 
--- two changes of what may be told are one
-pub changed_twice : {A : Type 0} (f h : A → A) (told : Option A) → option_map f (option_map h told) ≡ option_map (λ x. f (h x)) told
+-- two changes of what may be known are one
+pub changed_twice : {A : Type 0} (f h : A → A) (known : Option A) → option_map f (option_map h known) ≡ option_map (λ x. f (h x)) known
 changed_twice f h None = refl
 changed_twice f h (Some x) = refl
 
-pub told_gained : (s t : List ℕ) (held : Option (List ℕ)) → option_map (gained t) (option_map (gained s) held) ≡ option_map (gained (s ++ t)) held
-told_gained s t None = refl
-told_gained s t (Some text) = ap Some (append_assoc text s t)
+pub known_gained : (s t : List ℕ) (held : Option (List ℕ)) → option_map (gained t) (option_map (gained s) held) ≡ option_map (gained (s ++ t)) held
+known_gained s t None = refl
+known_gained s t (Some text) = ap Some (append_assoc text s t)
 
 pub gained_none : (held : Option (List ℕ)) → held ≡ option_map (gained []) held
 gained_none None = refl
 gained_none (Some text) = ap Some (sym (append-nil text))
 
 -- the journal with more text
-pub journal_more : (names : WalkNames) (text more : List ℕ) (pictures : List (List ℕ)) (told : Option Files)
-    → option_map (with_appended names.journal more) (option_map (with_walk names text pictures) told) ≡ option_map (with_walk names (text
-    ++ more) pictures) told
-journal_more names text more pictures told =
-    ap (option_map (with_appended names.journal more)) (sym (changed_twice (with_bytes names.journal text) (with_pictures names.prefix pictures) told))
-    ∙ told-bytes-appended names.journal text more (option_map (with_pictures names.prefix pictures) told)
-    ∙ changed_twice (with_bytes names.journal (text ++ more)) (with_pictures names.prefix pictures) told
+pub journal_more : (names : WalkNames) (text more : List ℕ) (pictures : List (List ℕ)) (known : Option Files)
+    → option_map (with_appended names.journal more) (option_map (with_walk names text pictures) known) ≡ option_map (with_walk names (text
+    ++ more) pictures) known
+journal_more names text more pictures known =
+    ap (option_map (with_appended names.journal more)) (sym (changed_twice (with_bytes names.journal text) (with_pictures names.prefix pictures) known))
+    ∙ known-bytes-appended names.journal text more (option_map (with_pictures names.prefix pictures) known)
+    ∙ changed_twice (with_bytes names.journal (text ++ more)) (with_pictures names.prefix pictures) known
 
 -- what was written of earlier pictures stays
 written_stays : (drawn : PictureDrawn) (g : WalkGiven) (p : WalkPass) (run : List WalkPass) (picture : ℕ) (bytes : List ℕ)
-    → IsRun g.setup run → p.picture ≢ picture → IsWritten drawn g run picture bytes → IsWritten drawn g (p ∷ run) picture bytes
+    → IsWalkRun g.setup run → p.picture ≢ picture → IsWritten drawn g run picture bytes → IsWritten drawn g (p ∷ run) picture bytes
 written_stays drawn g p run picture bytes is_run other w =
     let same : last_rows (p ∷ run) picture ≡ last_rows run picture = rows_after false p run picture (other_number p.picture picture other) in
     record {
       samples = w.samples;
       encoded = w.encoded;
-      replay = stays g.told w.replay;
+      replay = stays g.known w.replay;
       plain = w.plain;
       from_draws = record {
         machine = w.from_draws.machine;
@@ -74,13 +74,13 @@ written_stays drawn g p run picture bytes is_run other w =
         drawn_by = subst (drawn w.from_draws.machine g.scene.path picture) (sym same) w.from_draws.drawn_by;
       };
     } where
-      stays : (told : Option (List ℕ)) → IfSome told (λ b. IsRunPicture g.setup run g.scene.depth g.scene.path.width (g.draws.shows g.scene b) picture w.samples)
-          → IfSome told (λ b. IsRunPicture g.setup (p ∷ run) g.scene.depth g.scene.path.width (g.draws.shows g.scene b) picture w.samples)
+      stays : (known : Option (List ℕ)) → IfSome known (λ b. IsRunPicture g.setup run g.scene.depth g.scene.path.width (g.draws.shows g.scene b) picture w.samples)
+          → IfSome known (λ b. IsRunPicture g.setup (p ∷ run) g.scene.depth g.scene.path.width (g.draws.shows g.scene b) picture w.samples)
       stays None shown = tt
       stays (Some b) shown = picture_stays g.setup p run g.scene.depth g.scene.path.width (g.draws.shows g.scene b) picture w.samples is_run other shown
 
 pub all_stay : (drawn : PictureDrawn) (g : WalkGiven) (p : WalkPass) (run : List WalkPass) (pictures : List (List ℕ))
-    → IsRun g.setup run → length pictures ≤ p.picture → AreWritten drawn g run pictures → AreWritten drawn g (p ∷ run) pictures
+    → IsWalkRun g.setup run → length pictures ≤ p.picture → AreWritten drawn g run pictures → AreWritten drawn g (p ∷ run) pictures
 all_stay drawn g p run [] is_run few w = tt
 all_stay drawn g p run (bytes ∷ pictures) is_run few w =
     let other : p.picture ≢ length pictures = λ same. absurd (omega (arith, same, few)) in
@@ -88,10 +88,10 @@ all_stay drawn g p run (bytes ∷ pictures) is_run few w =
 
 -- what a run has asked, and then a pass
 pub asked_more : (s : Shape) (d pinned : ℕ) (p : WalkPass) (run : List WalkPass) (a b c : Option (List Place))
-    → OnTold (AreAskedFor s d pinned (planned_in run) (lost_in run)) a b → OnTold (AreAskedFor s d 0 p.batch (lost_entries p.batch p.losses)) b c
-    → OnTold (AreAskedFor s d pinned (planned_in (p ∷ run)) (lost_in (p ∷ run))) a c
+    → OnKnown (AreAskedFor s d pinned (planned_in run) (lost_in run)) a b → OnKnown (AreAskedFor s d 0 p.batch (lost_entries p.batch p.losses)) b c
+    → OnKnown (AreAskedFor s d pinned (planned_in (p ∷ run)) (lost_in (p ∷ run))) a c
 asked_more s d pinned p run a b c before more =
-    told_twice (AreAskedFor s d pinned (planned_in run) (lost_in run)) (AreAskedFor s d 0 p.batch (lost_entries p.batch p.losses))
+    known_twice (AreAskedFor s d pinned (planned_in run) (lost_in run)) (AreAskedFor s d 0 p.batch (lost_entries p.batch p.losses))
     (AreAskedFor s d pinned (planned_in (p ∷ run)) (lost_in (p ∷ run))) a b c
     (λ x y z one two. record {
       asked = λ at len. omega (arith, one.asked at len, two.asked at len, planned_more s d at len p run);
@@ -99,20 +99,20 @@ asked_more s d pinned p run a b c before more =
     }) before more
 
 -- a pass whose text is in the journal
-pub pass_told : (drawn : PictureDrawn) (g : WalkGiven) (p : WalkPass) (run : List WalkPass) (pictures : List (List ℕ))
+pub pass_journaled : (drawn : PictureDrawn) (g : WalkGiven) (p : WalkPass) (run : List WalkPass) (pictures : List (List ℕ))
     (first was now : WalkState) → Stands drawn g run pictures first was → IsNextPass g.setup run p → p.picture ≡ length pictures
-    → now.files ≡ option_map (with_appended g.names.journal (pass_text g.setup.shape (told_of g.setup run p))) was.files
+    → now.files ≡ option_map (with_appended g.names.journal (pass_text g.setup.shape (content_pass g.setup run p))) was.files
     → IsThere now.files g.names.journal → now.held ≡ was.held
-    → OnTold (AreAskedFor g.scene.shape g.scene.depth 0 p.batch (lost_entries p.batch p.losses)) was.asked now.asked
+    → OnKnown (AreAskedFor g.scene.shape g.scene.depth 0 p.batch (lost_entries p.batch p.losses)) was.asked now.asked
     → RoseBy (lost_count p.losses) was.faults now.faults → was.out_faults ≤ now.out_faults
     → Stands drawn g (p ∷ run) pictures first now
-pass_told drawn g p run pictures first was now s next count files there held asked faults out_faults = record {
+pass_journaled drawn g p run pictures first was now s next count files there held asked faults out_faults = record {
   is_run = (s.is_run, next);
   reached = inl (sym count);
   written = all_stay drawn g p run pictures s.is_run (omega (arith, count)) s.written;
   files = λ apart.
-      files ∙ ap (option_map (with_appended g.names.journal (pass_text g.setup.shape (told_of g.setup run p)))) (s.files apart)
-      ∙ journal_more g.names (run_text g.setup run) (pass_text g.setup.shape (told_of g.setup run p)) pictures first.files
+      files ∙ ap (option_map (with_appended g.names.journal (pass_text g.setup.shape (content_pass g.setup run p)))) (s.files apart)
+      ∙ journal_more g.names (run_text g.setup run) (pass_text g.setup.shape (content_pass g.setup run p)) pictures first.files
       ∙ ap (λ (text : List ℕ). option_map (with_walk g.names text pictures) first.files) (sym (text_grows g.setup p run));
   there = there;
   held = held ∙ s.held ∙ ap (λ (text : List ℕ). option_map (gained text) first.held) (sym (lines_stay p run (length pictures) (omega (arith, count))));
@@ -130,35 +130,35 @@ lines_more run n =
     ∙ ap (λ (text : List ℕ). picture_lines run n ++ text) (append-nil (picture_line run (0 + n)) ∙ ap (picture_line run) (omega arith))
 
 -- the journal was written before a picture, or after it
-picture_first : (names : WalkNames) (text bytes : List ℕ) (pictures : List (List ℕ)) (told : Option Files) → IsApart names
-    → option_map (with_bytes (picture_name names.prefix (length pictures)) bytes) (option_map (with_walk names text pictures) told)
-    ≡ option_map (with_walk names text (bytes ∷ pictures)) told
+picture_first : (names : WalkNames) (text bytes : List ℕ) (pictures : List (List ℕ)) (known : Option Files) → IsApart names
+    → option_map (with_bytes (picture_name names.prefix (length pictures)) bytes) (option_map (with_walk names text pictures) known)
+    ≡ option_map (with_walk names text (bytes ∷ pictures)) known
 picture_first names text bytes pictures None apart = refl
 picture_first names text bytes pictures (Some files) apart =
     ap Some (either_first (picture_name names.prefix (length pictures)) names.journal bytes text (with_pictures names.prefix pictures files)
     (other_name names (length pictures) apart))
 
 -- a picture that is written, and its line
-pub picture_told : (drawn : PictureDrawn) (g : WalkGiven) (p : WalkPass) (run : List WalkPass) (pictures : List (List ℕ))
+pub picture_journaled : (drawn : PictureDrawn) (g : WalkGiven) (p : WalkPass) (run : List WalkPass) (pictures : List (List ℕ))
     (bytes : List ℕ) (first was now : WalkState) → Stands drawn g (p ∷ run) pictures first was → IsFinished g.setup p run → p.picture ≡ length pictures
     → IsWritten drawn g (p ∷ run) (length pictures) bytes
     → now.files ≡ option_map (with_bytes (picture_name g.names.prefix (length pictures)) bytes) was.files
     → now.held ≡ option_map (gained (picture_line (p ∷ run) (length pictures))) was.held
     → now.asked ≡ was.asked → was.faults ≤ now.faults → was.out_faults ≤ now.out_faults
     → Stands drawn g (p ∷ run) (bytes ∷ pictures) first now
-picture_told drawn g p run pictures bytes first was now s finished count written files held asked faults out_faults = record {
+picture_journaled drawn g p run pictures bytes first was now s finished count written files held asked faults out_faults = record {
   is_run = s.is_run;
   reached = inr (finished, omega (arith, count));
   written = (s.written, written);
   files = λ apart.
       files ∙ ap (option_map (with_bytes (picture_name g.names.prefix (length pictures)) bytes)) (s.files apart)
       ∙ picture_first g.names (run_text g.setup (p ∷ run)) bytes pictures first.files apart;
-  there = subst (λ told. IsThere told g.names.journal) (sym files)
+  there = subst (λ known. IsThere known g.names.journal) (sym files)
       (there_stays g.names.journal (picture_name g.names.prefix (length pictures)) bytes was.files s.there);
   held = held ∙ ap (option_map (gained (picture_line (p ∷ run) (length pictures)))) s.held
-      ∙ told_gained (picture_lines (p ∷ run) (length pictures)) (picture_line (p ∷ run) (length pictures)) first.held
+      ∙ known_gained (picture_lines (p ∷ run) (length pictures)) (picture_line (p ∷ run) (length pictures)) first.held
       ∙ ap (λ (text : List ℕ). option_map (gained text) first.held) (sym (lines_more (p ∷ run) (length pictures)));
-  asked = subst (λ told. OnTold (AreAskedFor g.scene.shape g.scene.depth g.setup.pinned (planned_in (p ∷ run)) (lost_in (p ∷ run))) first.asked told)
+  asked = subst (λ known. OnKnown (AreAskedFor g.scene.shape g.scene.depth g.setup.pinned (planned_in (p ∷ run)) (lost_in (p ∷ run))) first.asked known)
       (sym asked) s.asked;
   faults = let f = s.faults in omega (arith, f, faults);
   out_faults = let o = s.out_faults in omega (arith, o, out_faults);

@@ -14,20 +14,20 @@ use Rattle.vt_feedback.specs.Wants.{pages_wanted, IsWants}
 use Rattle.vt_plan.specs.Orders.{line_pages}
 use Rattle.vt_evict.specs.PageLists.{is_in}
 use Rattle.vt_plan.specs.Views.{RecencyView, first_view, pages_needed}
-use Rattle.vt_evict.specs.Missing.{is_mapped}
+use Rattle.vt_evict.specs.Missing.{has_frame}
 use Rattle.vt_evict.proofs.SettleLemmas.{self_eq, contains_head}
 use Rattle.vt_walk_decisions.specs.Passes.{MapsNeeded}
 use Rattle.vt_walk_decisions.proofs.Settled.{no_events}
 use Rattle.vt_walk_decisions.specs.declared.mode.Mode.{Mode}
 use Rattle.vt_walk_decisions.specs.declared.mode.Mode.TheVariants.{Settled}
-use Rattle.vt_walk.specs.Fits.{WalkSetup, NeedsFrames, Fits, DoesNotFit}
-use Rattle.vt_walk.specs.Runs.{WalkPass, IsWalkSetup, journal_after, recency_after, plan_after, Finishes, IsFinished, GoesOn, IsRun}
-use Rattle.vt_walk.specs.Agreements.{entry_of}
+use Rattle.vt_walk.specs.Fits.{WalkSetup, NeedsFrames, PictureFits, DoesNotFit}
+use Rattle.vt_walk.specs.Runs.{WalkPass, IsWalkSetup, journal_after, recency_after, plan_after, Finishes, IsFinished, WalkGoesOn, IsWalkRun}
+use Rattle.vt_walk.specs.Agreements.{entry_number_of}
 use Rattle.vt_walk.proofs.Agreeing.{root_last}
 use Rattle.vt_walk.proofs.Running.{run_kept}
 use Rattle.vt_walk.proofs.Finishing.{wants_one, mapped_if_none}
 
-pub mapped_some : (o : Option ℕ) → nat_lt 0 (entry_of o) ≡ true → IsSome o
+pub mapped_some : (o : Option ℕ) → nat_lt 0 (entry_number_of o) ≡ true → IsSome o
 mapped_some None e = absurd (false≢true e)
 mapped_some (Some f) e = refl
 
@@ -56,7 +56,7 @@ pub needs_one : (w : WalkSetup) (picture n m : ℕ) → NeedsFrames w picture n 
 needs_one w picture n m a b =
     a.count ∙ ap (pages_needed (first_view w.shape w.frames w.pinned)) (wants_one w.shape (w.needs picture) a.wants b.wants a.wanted b.wanted) ∙ sym b.count
 
-pub fits_or_not : (w : WalkSetup) (picture n : ℕ) → Fits w picture → DoesNotFit w picture n → ⊥
+pub fits_or_not : (w : WalkSetup) (picture n : ℕ) → PictureFits w picture → DoesNotFit w picture n → ⊥
 fits_or_not w picture n f d = absurd (omega (arith, f.room, d.no_room, needs_one w picture f.needed n f.pages d.pages))
 
 -- how many pages a pass's wanted list needs
@@ -73,12 +73,12 @@ needs_of w v picture wants shape pinned wanted = record {
 pub pin_true : (m n : ℕ) → m ≤ n → nat_le m n ≡ true
 pin_true m n h = grind (arith, nat_tests)
 
-pub finished_maps_needed : (w : WalkSetup) (p : WalkPass) (passes : List WalkPass) → IsWalkSetup w → IsRun w (p ∷ passes) → w.mode ≡ Settled
-    → GoesOn w.mode w p → IsFinished w p passes → MapsNeeded w.shape (newest (journal_after w passes)) (w.needs p.picture)
+pub finished_maps_needed : (w : WalkSetup) (p : WalkPass) (passes : List WalkPass) → IsWalkSetup w → IsWalkRun w (p ∷ passes) → w.mode ≡ Settled
+    → WalkGoesOn w.mode w p → IsFinished w p passes → MapsNeeded w.shape (newest (journal_after w passes)) (w.needs p.picture)
 finished_maps_needed w p passes h run mode go finished =
     let kept = run_kept w (p ∷ passes) h run in
     let v = recency_after w (p ∷ passes) in
-    let goes : GoesOn Settled w p = subst (λ (m : Mode). GoesOn m w p) mode go in
+    let goes : WalkGoesOn Settled w p = subst (λ (m : Mode). WalkGoesOn m w p) mode go in
     let done : Finishes Settled p.batch (plan_after w (p ∷ passes)) = subst (λ (m : Mode). Finishes m p.batch (plan_after w (p ∷ passes))) mode finished in
     let same : journal_after w (p ∷ passes) ≡ journal_after w passes =
     ap (λ (es : List Event). journal_after w passes ++ changes_of es) (no_events p.batch p.losses p.events done.0 run.1.outcome)
@@ -90,7 +90,7 @@ finished_maps_needed w p passes h run mode go finished =
     let fits : pages_needed (recency_after w (p ∷ passes)) p.wants ≤ (recency_after w (p ∷ passes)).frames - (recency_after w (p ∷ passes)).pinned =
     omega (arith, count, fit.room, kept.frames, kept.pinned) in
     let pages : pages_of (recency_after w (p ∷ passes)).shape ≡ pages_of w.shape = ap pages_of kept.shape in
-    let held : (q : ℕ) → is_mapped (recency_after w (p ∷ passes)).entries q ≡ true → IsSome (newest (journal_after w passes) q) =
+    let held : (q : ℕ) → has_frame (recency_after w (p ∷ passes)).entries q ≡ true → IsSome (newest (journal_after w passes) q) =
     λ q is. subst (λ (js : List Change). IsSome (newest js q)) same
     (mapped_some (newest (journal_after w (p ∷ passes)) q) (ap (nat_lt 0) (sym (kept.agrees q)) ∙ is)) in
     let last = root_last w.shape h.limits in

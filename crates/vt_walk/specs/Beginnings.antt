@@ -1,20 +1,20 @@
 -- A machine before a walk has placed its pinned pages.
 use Rattle.std.specs.Prelude.{◌≡◌, List, [], Option, IsSome, is_some}
 use Rattle.vt_outside.specs.Files.{Asked}
-use Rattle.vt_walk_decisions.specs.Requests.{FileState, AllTell}
+use Rattle.vt_walk_decisions.specs.Requests.{FileState, AllKnown}
 use Rattle.vt_walk_decisions.specs.Machines.{MachineState}
-use Rattle.vt_walk.specs.Walks.{WalkGiven, machine_of}
+use Rattle.vt_walk.specs.Walks.{WalkGiven, setup_of_walk}
 
 -- a machine was made for a walk, and its journal is empty
 pub record IsBegun (g : WalkGiven) (m : MachineState) : Type 0 where
-  pub setup : m.setup ≡ machine_of g
+  pub setup : m.setup ≡ setup_of_walk g
   pub journal : m.journal ≡ []
 
 -- where a folder tells the places that were asked, open files do so
-abbrev pub AreTold : Option Asked → List FileState → Type 0
-AreTold asked opened = IsSome asked → AllTell opened
+abbrev pub AreKnown : Option Asked → List FileState → Type 0
+AreKnown asked opened = IsSome asked → AllKnown opened
 
 -- it is the same file, and tells its places where it did
 pub record IsSameFile (before after : FileState) : Type 0 where
   pub name : after.name ≡ before.name
-  pub tell : is_some after.asked ≡ is_some before.asked
+  pub all_known : is_some after.asked ≡ is_some before.asked

@@ -7,7 +7,7 @@ use Rattle.vt_walk_decisions.specs.declared.error.WalkError.TheVariants.{TooFewF
 use Rattle.vt_walk_decisions.specs.declared.mode.Mode.TheVariants.{Settled}
 use Rattle.vt_walk_decisions.specs.Outcomes.{lost_count}
 use Rattle.vt_walk.specs.DrawnBy.{PictureDrawn}
-use Rattle.vt_walk.specs.Fits.{Fits, DoesNotFit as IsTooLarge, room_of}
+use Rattle.vt_walk.specs.Fits.{PictureFits, DoesNotFit as IsTooLarge, room_beside_pinned}
 use Rattle.vt_walk.specs.Runs.{WalkPass}
 use Rattle.vt_walk.specs.Logs.{passes_of}
 use Rattle.vt_walk.specs.Walks.{WalkGiven}
@@ -16,7 +16,7 @@ use Rattle.vt_walk.specs.Reads.{lost_reads}
 use Rattle.vt_walk.specs.Standing.{Stands}
 use Rattle.vt_walk.specs.Leaving.{WritesNothing}
 
--- how many reads of unpinned pages' tiles failed in between, where the places are told
+-- how many reads of unpinned pages' tiles failed in between, where the places are known
 abbrev pub reads_lost : WalkGiven → Option (List Place) → Option (List Place) → ℕ
 reads_lost g (Some old) (Some new) =
     lost_reads g.scene.shape g.scene.depth g.setup.pinned new - lost_reads g.scene.shape g.scene.depth g.setup.pinned old
@@ -52,9 +52,9 @@ pub record HasTooFewFrames (g : WalkGiven) (frames needed : ℕ) (first now : Wa
 -- first pass, the pictures before it and their lines, and nothing else
 pub record HasUnfit (drawn : PictureDrawn) (g : WalkGiven) (picture needed room : ℕ) (first now : WalkState) : Type 0 where
   pub settled : g.setup.mode ≡ Settled
-  pub room_is : room ≡ room_of g.setup
+  pub room_is : room ≡ room_beside_pinned g.setup
   pub unfit : IsTooLarge g.setup picture needed
-  pub earlier : (i : ℕ) → i < picture → Fits g.setup i
+  pub earlier : (i : ℕ) → i < picture → PictureFits g.setup i
   pub pass : WalkPass
   pub before : List WalkPass
   pub of_picture : pass.picture ≡ picture

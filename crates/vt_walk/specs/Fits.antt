@@ -22,8 +22,8 @@ pub record WalkSetup : Type 0 where
   pub needs : ℕ → ℕ → ℕ
 
 -- how many frames are not those of pinned pages
-abbrev pub room_of : WalkSetup → ℕ
-room_of w = w.frames - w.pinned
+abbrev pub room_beside_pinned : WalkSetup → ℕ
+room_beside_pinned w = w.frames - w.pinned
 
 -- so many distinct unpinned pages are in the lines of the pages that a picture wants
 pub record NeedsFrames (w : WalkSetup) (picture needed : ℕ) : Type 0 where
@@ -32,12 +32,12 @@ pub record NeedsFrames (w : WalkSetup) (picture needed : ℕ) : Type 0 where
   pub count : needed ≡ pages_needed (first_view w.shape w.frames w.pinned) wants
 
 -- a picture fits: the pages that it needs have room beside the pinned ones
-pub record Fits (w : WalkSetup) (picture : ℕ) : Type 0 where
+pub record PictureFits (w : WalkSetup) (picture : ℕ) : Type 0 where
   pub needed : ℕ
   pub pages : NeedsFrames w picture needed
-  pub room : needed ≤ room_of w
+  pub room : needed ≤ room_beside_pinned w
 
 -- a picture does not fit: it needs so many pages, and there is room for fewer
 pub record DoesNotFit (w : WalkSetup) (picture needed : ℕ) : Type 0 where
   pub pages : NeedsFrames w picture needed
-  pub no_room : room_of w < needed
+  pub no_room : room_beside_pinned w < needed

@@ -13,11 +13,11 @@ use Rattle.vt_walk.specs.DrawnBy.{PictureDrawn, AnyRow}
 use Rattle.vt_walk.specs.Runs.{WalkPass}
 use Rattle.vt_walk.specs.Walks.{WalkGiven}
 use Rattle.vt_walk.specs.States.{WalkState}
-use Rattle.vt_walk.specs.WalkSteps.{IsGiven, IsAtRun, IsStep, MayDraw, HasDrawnPass, StandsAt, StandsLast}
+use Rattle.vt_walk.specs.WalkSteps.{IsGiven, IsAtRun, IsStep, MayTakeStep, HasDrawnPass, StandsAtStep, StandsLast}
 
--- what a pass began with: the store's bytes, where they are told, the run before it, and the machine
+-- what a pass began with: the store's bytes, where they are known, the run before it, and the machine
 pub record PassBefore : Type 0 where
-  pub told : Option (List ℕ)
+  pub known : Option (List ℕ)
   pub run : List WalkPass
   pub machine : MachineState
 
@@ -30,7 +30,7 @@ pub record MayStep (g : WalkGiven) (run : List WalkPass) (number : ℕ) (t : Wal
 -- a machine has run the pass of a step, beginning at this version, and drawn its picture
 pub record HasRunStep (drawn : PictureDrawn) (g : WalkGiven) (run : List WalkPass) (number : ℕ) (t : WalkStep) (start : ℕ)
     (r : PassReport) (before after : MachineState) (v : RecencyView) : Type 0 where
-  pub may : MayDraw g run number t before v
+  pub may : MayTakeStep g run number t before v
   pub start_is : start ≡ length before.journal
   pub ran : Ran g.draws AnyRow (record { scene = g.scene; picture = t.picture; batch = t.batch.elements }) r before after
   pub by : drawn after g.scene.path t.picture r.rows.elements
@@ -45,16 +45,16 @@ DrawsNext drawn g run t before after v (next.End reads) = (t.picture ≡ g.setup
 pub record StandsRan (drawn : PictureDrawn) (g : WalkGiven) (number : ℕ) (t : WalkStep) (start : ℕ) (r : PassReport)
     (first : WalkState) (at : List FileState → WalkState) (m : MachineState) (v : RecencyView) : Type 0 where
   pub before : MachineState
-  pub stands : StandsAt drawn g number t first (at before.files) before v
+  pub stands : StandsAtStep drawn g number t first (at before.files) before v
   pub has_run : HasRunStep drawn g stands.run number t start r before m v
 
--- the beginning of a run is whole, and its next pass has been drawn, and is to be told
+-- the beginning of a run is whole, and its next pass has been drawn, and is to be journaled
 pub record StandsDrawn (drawn : PictureDrawn) (g : WalkGiven) (number : ℕ) (d : Drawn)
     (first : WalkState) (at : List FileState → WalkState) (m : MachineState) (v : RecencyView) : Type 0 where
   pub step : WalkStep
   pub before : MachineState
   pub recency : RecencyView
-  pub stands : StandsAt drawn g number step first (at before.files) before recency
+  pub stands : StandsAtStep drawn g number step first (at before.files) before recency
   pub more : step.picture < g.setup.pictures
   pub has_drawn : HasDrawnPass drawn g stands.run step before m v d
 

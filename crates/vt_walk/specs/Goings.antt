@@ -19,7 +19,7 @@ use Rattle.vt_walk.specs.Walks.{WalkGiven}
 use Rattle.vt_walk.specs.WalkInputs.{given_of}
 use Rattle.vt_walk.specs.States.{WalkState, places_of}
 use Rattle.vt_walk.specs.Standing.{Finished}
-use Rattle.vt_walk.specs.WalkSteps.{WalkStart, StandsFirst, StandsAt, StandsAfter, StandsLast, LeftByRefusal}
+use Rattle.vt_walk.specs.WalkSteps.{WalkStart, StandsFirst, StandsAtStep, StandsAfter, StandsLast, LeftByRefusal}
 use Rattle.vt_walk.specs.Following.{StandsRan, StandsDrawn, StandsNext}
 use Rattle.vt_walk.specs.Moments.{Moment}
 
@@ -35,7 +35,7 @@ walk_by kind input = record { drawn = IsDrawnBySome kind; draws = kind.drawing; 
 
 -- what it is given, by what it began with
 abbrev pub given_in : WalkBy → WalkStart → WalkGiven
-given_in w b = given_of w.draws w.input b.told
+given_in w b = given_of w.draws w.input b.known
 
 -- what is there at a time, with the store's file and the files of the machine
 abbrev pub state_in : WalkBy → WalkStart → Moment → List FileState → WalkState
@@ -53,17 +53,17 @@ AtFirst w b t = StandsFirst w.drawn (given_in w b) b.first (state_in w b t t.mac
 
 -- the step of the pass with this number is next
 abbrev pub AtStep : WalkBy → WalkStart → Moment → ℕ → WalkStep → Type 0
-AtStep w b t number step = StandsAt w.drawn (given_in w b) number step b.first (state_in w b t t.machine.files) t.machine t.recency
+AtStep w b t number step = StandsAtStep w.drawn (given_in w b) number step b.first (state_in w b t t.machine.files) t.machine t.recency
 
 -- the pass with this number was run
 abbrev pub AtRun : WalkBy → WalkStart → Moment → ℕ → WalkStep → ℕ → PassReport → Type 0
 AtRun w b t number step start report = StandsRan w.drawn (given_in w b) number step start report b.first (state_in w b t) t.machine t.recency
 
--- it was drawn, and is to be told
+-- it was drawn, and is to be journaled
 abbrev pub AtDrawn : WalkBy → WalkStart → Moment → ℕ → Drawn → Type 0
 AtDrawn w b t number drawn = StandsDrawn w.drawn (given_in w b) number drawn b.first (state_in w b t) t.machine t.recency
 
--- it was told
+-- it was journaled
 abbrev pub AtPass : WalkBy → WalkStart → Moment → ℕ → Passed → Type 0
 AtPass w b t number passed = StandsAfter w.drawn (given_in w b) number passed b.first (state_in w b t t.machine.files) t.machine t.recency
 
@@ -96,17 +96,17 @@ abbrev pub GoesFromDrawn : WalkBy → ℕ → Drawn → Moment → Moment → Re
 GoesFromDrawn w number drawn before after result = (b : WalkStart) → AtDrawn w b before number drawn
     → MatchResult result (AtNext w b after (number + 1)) (IsLeft w b after)
 
--- from a pass that was told to the next one that is drawn
+-- from a pass that was journaled to the next one that is drawn
 abbrev pub GoesFromPass : WalkBy → ℕ → Passed → Moment → Moment → Result Next WalkError → Type 0
 GoesFromPass w number passed before after result = (b : WalkStart) → AtPass w b before number passed
     → MatchResult result (AtNext w b after (number + 1)) (IsLeft w b after)
 
--- from a pass that was told to the step of the next one
+-- from a pass that was journaled to the step of the next one
 abbrev pub EndsPass : WalkBy → ℕ → Passed → Moment → Moment → Result WalkStep WalkError → Type 0
 EndsPass w number passed before after result = (b : WalkStart) → AtPass w b before number passed
     → MatchResult result (AtStep w b after (number + 1)) (IsLeft w b after)
 
--- from a pass that was told to the next picture's first one, which was run
+-- from a pass that was journaled to the next picture's first one, which was run
 abbrev pub RunsBeside : WalkBy → ℕ → Passed → Moment → Moment → Result PassReport WalkError → Type 0
 RunsBeside w number passed before after result = (b : WalkStart) → AtPass w b before number passed
     → MatchResult result (AtRun w b after (number + 1) (next_step passed) (length before.machine.journal)) (IsLeft w b after)

@@ -8,11 +8,11 @@ use Rattle.vt_walk_decisions.specs.Outcomes.{lost_count}
 use Rattle.vt_walk_decisions.specs.Requests.{lost_entries}
 use Rattle.vt_pictures.specs.Names.{picture_name}
 use Rattle.vt_walk.specs.DrawnBy.{PictureDrawn}
-use Rattle.vt_walk.specs.Runs.{WalkPass, IsStepOf, IsNextPass, IsFinished, IsWhole, plan_after, told_of}
+use Rattle.vt_walk.specs.Runs.{WalkPass, IsStepOf, IsNextPass, IsFinished, IsWhole, plan_after, content_pass}
 use Rattle.vt_walk.specs.Logs.{picture_line, walk_end_line}
 use Rattle.vt_walk.specs.Walks.{WalkGiven}
 use Rattle.vt_walk.specs.States.{WalkState}
-use Rattle.vt_walk.specs.Reads.{AreAskedFor, AreAskedAtMostFor, OnTold}
+use Rattle.vt_walk.specs.Reads.{AreAskedFor, AreAskedAtMostFor, OnKnown}
 use Rattle.vt_walk.specs.Standing.{Stands}
 use Rattle.vt_walk.specs.Written.{IsWritten}
 
@@ -32,7 +32,7 @@ pub record LeftAtHead (g : WalkGiven) (first now : WalkState) : Type 0 where
   pub files : (now.files ≡ first.files)
       ⊎ ((k : ℕ) × (now.files ≡ option_map (with_bytes g.names.journal (take k (head_text g.setup.shape g.setup.pinned))) first.files))
   pub held : now.held ≡ first.held
-  pub asked : OnTold (AreAskedAtMostFor g.scene.shape g.scene.depth g.setup.pinned []) first.asked now.asked
+  pub asked : OnKnown (AreAskedAtMostFor g.scene.shape g.scene.depth g.setup.pinned []) first.asked now.asked
   pub faults : first.faults ≤ now.faults
   pub out_faults : first.out_faults ≤ now.out_faults
 
@@ -42,7 +42,7 @@ pub record LeftInPass (g : WalkGiven) (run : List WalkPass) (picture : ℕ) (bef
   pub of_path : picture < g.setup.pictures
   pub files : after.files ≡ before.files
   pub held : after.held ≡ before.held
-  pub asked : OnTold (AreAskedAtMostFor g.scene.shape g.scene.depth 0 (plan_after g.setup run)) before.asked after.asked
+  pub asked : OnKnown (AreAskedAtMostFor g.scene.shape g.scene.depth 0 (plan_after g.setup run)) before.asked after.asked
   pub faults : before.faults ≤ after.faults
   pub out_faults : before.out_faults ≤ after.out_faults
 
@@ -52,9 +52,9 @@ pub record LeftInText (g : WalkGiven) (run : List WalkPass) (picture : ℕ) (bef
   pub comes_next : IsNextPass g.setup run next
   pub picture_is : next.picture ≡ picture
   pub files : (after.files ≡ before.files)
-      ⊎ ((k : ℕ) × (after.files ≡ option_map (with_appended g.names.journal (take k (pass_text g.setup.shape (told_of g.setup run next)))) before.files))
+      ⊎ ((k : ℕ) × (after.files ≡ option_map (with_appended g.names.journal (take k (pass_text g.setup.shape (content_pass g.setup run next)))) before.files))
   pub held : after.held ≡ before.held
-  pub asked : OnTold (AreAskedFor g.scene.shape g.scene.depth 0 next.batch (lost_entries next.batch next.losses)) before.asked after.asked
+  pub asked : OnKnown (AreAskedFor g.scene.shape g.scene.depth 0 next.batch (lost_entries next.batch next.losses)) before.asked after.asked
   pub faults : RoseBy (lost_count next.losses) before.faults after.faults
   pub out_faults : before.out_faults ≤ after.out_faults
 
@@ -67,7 +67,7 @@ HasFinished g (p ∷ passes) picture = IsFinished g.setup p passes × (p.picture
 pub record AsksForNext (g : WalkGiven) (run : List WalkPass) (picture : ℕ) (before after : Option (List Place)) : Type 0 where
   pub step : IsStepOf g.setup run picture
   pub of_path : picture < g.setup.pictures
-  pub asked : OnTold (AreAskedAtMostFor g.scene.shape g.scene.depth 0 (plan_after g.setup run)) before after
+  pub asked : OnKnown (AreAskedAtMostFor g.scene.shape g.scene.depth 0 (plan_after g.setup run)) before after
 
 -- after a finished picture nothing was asked, or the pass that comes next was under way while the picture was written; and the counts did
 -- not fall

@@ -7,7 +7,7 @@ use Rattle.vt_plan.specs.Views.{RecencyView}
 use Rattle.vt_walk_decisions.specs.Requests.{AreSameFiles}
 use Rattle.vt_walk_decisions.specs.Machines.{MachineState}
 
--- a walk at a time: what its folder holds and the places that it was asked, where they are told, and its count of faults; the text of its sink
+-- a walk at a time: what its folder holds and the places that it was asked, where they are known, and its count of faults; the text of its sink
 -- and the sink's count; its machine, and the recency of its pages
 pub record Moment : Type 0 where
   pub files : Option Files

@@ -6,11 +6,11 @@ use Rattle.vt_pages.specs.Shape.{Shape}
 use Rattle.vt_tiles.specs.StoreViews.{StoreView}
 
 -- a store of a name was just opened: it tells these bytes, or tells none, was asked nothing and has met no fault
-pub record IsFresh {F : Type 0} (g : FileMeanings F) (s : Shape) (d : ℕ) (name : List ℕ) (asked : Option Asked) (told : Option (List ℕ))
+pub record IsFresh {F : Type 0} (g : FileMeanings F) (s : Shape) (d : ℕ) (name : List ℕ) (asked : Option Asked) (known : Option (List ℕ))
     (store : StoreView F) : Type 0 where
   pub shape : store.shape ≡ s
   pub depth : store.depth ≡ d
-  pub bytes : g.bytes store.file ≡ told
+  pub bytes : g.bytes store.file ≡ known
   pub no_places : g.asked store.file ≡ option_map (λ _. []) asked
   pub named : OnSome asked (g.name store.file ≡ name)
   pub no_faults : g.faults store.file ≡ 0

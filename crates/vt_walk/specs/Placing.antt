@@ -9,11 +9,11 @@ use Rattle.vt_journal.specs.declared.changes.Change.{Change}
 use Rattle.vt_journal.specs.JournalText.{pinned_change, pinned_changes}
 use Rattle.vt_walk_decisions.specs.Machines.{Setup, MachineState}
 
--- a store with these bytes, where they are told, and of this shape and depth is the one for which a machine was made
-pub record IsStoreOf (given : Setup) (told : Option (List ℕ)) (s : Shape) (d : ℕ) : Type 0 where
+-- a store with these bytes, where they are known, and of this shape and depth is the one for which a machine was made
+pub record IsStoreOf (given : Setup) (known : Option (List ℕ)) (s : Shape) (d : ℕ) : Type 0 where
   pub shape : given.shape ≡ s
   pub depth : given.depth ≡ d
-  pub bytes : given.bytes ≡ told
+  pub bytes : given.bytes ≡ known
 
 -- the machine with this journal
 abbrev pub with_changes : List Change → MachineState → MachineState

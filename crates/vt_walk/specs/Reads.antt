@@ -24,11 +24,11 @@ abbrev pub AreAskedAtMostFor : Shape → ℕ → ℕ → List Planned → List P
 AreAskedAtMostFor s d pinned planned before after =
     (at len : ℕ) → times_asked at len after ≤ times_asked at len before + (times_pinned s d pinned at len + times_planned s d planned at len)
 
--- the places are told before and after, and are so; or they are not told
-abbrev pub OnTold : (List Place → List Place → Type 0) → Option (List Place) → Option (List Place) → Type 0
-OnTold P (Some before) (Some after) = P before after
-OnTold P None None = Unit {0}
-OnTold P _ _ = ⊥
+-- the places are known before and after, and are so; or they are not known
+abbrev pub OnKnown : (List Place → List Place → Type 0) → Option (List Place) → Option (List Place) → Type 0
+OnKnown P (Some before) (Some after) = P before after
+OnKnown P None None = Unit {0}
+OnKnown P _ _ = ⊥
 
 -- how many reads of unpinned pages' tiles have failed
 abbrev pub lost_reads : Shape → ℕ → ℕ → List Place → ℕ

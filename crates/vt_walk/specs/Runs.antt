@@ -10,7 +10,7 @@ use Rattle.vt_feedback.specs.declared.Wanted.{Wanted}
 use Rattle.vt_feedback.specs.Wants.{IsWants}
 use Rattle.vt_evict.specs.PlanTypes.batches.Planned.{Planned}
 use Rattle.vt_plan.specs.Views.{RecencyView, first_view, touched}
-use Rattle.vt_evict.specs.Batches.{IsSettled, read_entries}
+use Rattle.vt_evict.specs.Batches.{IsSettledByReads, read_entries}
 use Rattle.vt_plan.specs.Plans.{plan_of}
 use Rattle.vt_walk_decisions.specs.MachineTypes.crew.PassReport.{PassReport}
 use Rattle.vt_walk_decisions.specs.Jobs.{Job}
@@ -19,7 +19,7 @@ use Rattle.vt_walk_decisions.specs.RowOrders.{AreRowsInOrder}
 use Rattle.vt_walk_decisions.specs.Requests.{lost_entries}
 use Rattle.vt_walk_decisions.specs.declared.mode.Mode.{Mode}
 use Rattle.vt_walk_decisions.specs.declared.mode.Mode.TheVariants.{Live, Settled}
-use Rattle.vt_walk.specs.Fits.{WalkSetup, Fits}
+use Rattle.vt_walk.specs.Fits.{WalkSetup, PictureFits}
 
 -- a pass: its picture, its batch and which entries were lost, its events and its rows, its picture's wanted list, and the table
 -- and the order of its pages once the entries that were read are settled
@@ -33,8 +33,8 @@ pub record WalkPass : Type 0 where
   pub settled : RecencyView
 
 -- the pass that did a job and reported this, where its picture has this wanted list, and the pages are settled so
-abbrev pub pass_of : Job → PassReport → List Wanted → RecencyView → WalkPass
-pass_of job report wants settled = record {
+abbrev pub walk_pass_of : Job → PassReport → List Wanted → RecencyView → WalkPass
+walk_pass_of job report wants settled = record {
   picture = job.picture;
   batch = job.batch;
   losses = report.losses.elements;
@@ -81,9 +81,9 @@ abbrev pub IsFinished : WalkSetup → WalkPass → List WalkPass → Type 0
 IsFinished w p passes = Finishes w.mode p.batch (plan_after w (p ∷ passes))
 
 -- a walk of this mode may go on after a pass: settled only where nothing was lost and the picture fits
-abbrev pub GoesOn : Mode → WalkSetup → WalkPass → Type 0
-GoesOn Live w p = Unit {0}
-GoesOn Settled w p = (lost_count p.losses ≡ 0) × Fits w p.picture
+abbrev pub WalkGoesOn : Mode → WalkSetup → WalkPass → Type 0
+WalkGoesOn Live w p = Unit {0}
+WalkGoesOn Settled w p = (lost_count p.losses ≡ 0) × PictureFits w p.picture
 
 -- the next picture, where the one before is finished, else the same
 abbrev pub IsPictureAfter : Type 0 → ℕ → ℕ → Type 0
@@ -92,7 +92,7 @@ IsPictureAfter finished before picture = (finished × (picture ≡ before + 1)) 
 -- a picture's pass may come after passes
 abbrev pub IsStepOf : WalkSetup → List WalkPass → ℕ → Type 0
 IsStepOf w [] picture = picture ≡ 0
-IsStepOf w (p ∷ passes) picture = GoesOn w.mode w p × IsPictureAfter (IsFinished w p passes) p.picture picture
+IsStepOf w (p ∷ passes) picture = WalkGoesOn w.mode w p × IsPictureAfter (IsFinished w p passes) p.picture picture
 
 -- a pass may come after passes: it has the picture that is to be drawn next and the batch that was planned (so a settled picture begins
 -- with the empty batch: law pictures_come_in_turn), its events are an outcome of its batch, and its rows are in order
@@ -103,17 +103,17 @@ pub record IsNextPass (w : WalkSetup) (before : List WalkPass) (p : WalkPass) : 
   pub wanted : IsWants w.shape (w.needs p.picture) p.wants
   pub outcome : IsOutcome p.batch p.losses p.events
   pub in_order : AreRowsInOrder w.dealt w.samplers w.height (length (journal_after w before)) (length (journal_after w (p ∷ before))) p.rows
-  pub settles : IsSettled (recency_after w before) (read_entries p.batch p.losses) p.settled
+  pub settles : IsSettledByReads (recency_after w before) (read_entries p.batch p.losses) p.settled
 
 -- each pass may come after those before it
-abbrev pub IsRun : WalkSetup → List WalkPass → Type 0
-IsRun w [] = Unit {0}
-IsRun w (p ∷ passes) = IsRun w passes × IsNextPass w passes p
+abbrev pub IsWalkRun : WalkSetup → List WalkPass → Type 0
+IsWalkRun w [] = Unit {0}
+IsWalkRun w (p ∷ passes) = IsWalkRun w passes × IsNextPass w passes p
 
 -- every picture has its passes, and nothing more is to follow
 abbrev pub IsWhole : WalkSetup → List WalkPass → Type 0
 IsWhole w [] = w.pictures ≡ 0
-IsWhole w (p ∷ passes) = GoesOn w.mode w p × IsFinished w p passes × (p.picture + 1 ≡ w.pictures)
+IsWhole w (p ∷ passes) = WalkGoesOn w.mode w p × IsFinished w p passes × (p.picture + 1 ≡ w.pictures)
 
 -- all entries of the batches of passes
 abbrev pub planned_in : List WalkPass → List Planned
@@ -124,17 +124,17 @@ abbrev pub lost_in : List WalkPass → List Planned
 lost_in passes = flat_map (λ p. lost_entries p.batch p.losses) passes
 
 -- what the journal's text tells of a pass that comes after passes
-abbrev pub told_of : WalkSetup → List WalkPass → WalkPass → Pass
-told_of w before p = record { pass = length before + 1; picture = p.picture; start = length (journal_after w before); events = p.events; rows = p.rows }
+abbrev pub content_pass : WalkSetup → List WalkPass → WalkPass → Pass
+content_pass w before p = record { pass = length before + 1; picture = p.picture; start = length (journal_after w before); events = p.events; rows = p.rows }
 
 -- what it tells of passes, the first pass first
-abbrev pub passes_told : WalkSetup → List WalkPass → List Pass
-passes_told w [] = []
-passes_told w (p ∷ passes) = passes_told w passes ++ told_of w passes p ∷ []
+abbrev pub content_passes : WalkSetup → List WalkPass → List Pass
+content_passes w [] = []
+content_passes w (p ∷ passes) = content_passes w passes ++ content_pass w passes p ∷ []
 
 -- the content of the journal's text of passes
 abbrev pub run_content : WalkSetup → List WalkPass → Content
-run_content w passes = record { pinned = w.pinned; passes = passes_told w passes }
+run_content w passes = record { pinned = w.pinned; passes = content_passes w passes }
 
 -- the journal's text of passes
 abbrev pub run_text : WalkSetup → List WalkPass → List ℕ

@@ -5,13 +5,13 @@ use Rattle.vt_outside.specs.Files.{gained, IsThere}
 use Rattle.vt_journal.specs.Changes.{AreLegal, Pinned}
 use Rattle.vt_walk_decisions.specs.declared.mode.Mode.TheVariants.{Settled}
 use Rattle.vt_walk.specs.DrawnBy.{PictureDrawn}
-use Rattle.vt_walk.specs.Fits.{WalkSetup, Fits}
-use Rattle.vt_walk.specs.Runs.{WalkPass, IsRun, IsWhole, IsFinished, journal_after, run_text, planned_in, lost_in}
+use Rattle.vt_walk.specs.Fits.{WalkSetup, PictureFits}
+use Rattle.vt_walk.specs.Runs.{WalkPass, IsWalkRun, IsWhole, IsFinished, journal_after, run_text, planned_in, lost_in}
 use Rattle.vt_walk.specs.Logs.{picture_lines, log_text}
 use Rattle.vt_walk.specs.Walks.{WalkGiven}
 use Rattle.vt_walk.specs.Folders.{IsApart, with_walk}
 use Rattle.vt_walk.specs.States.{WalkState}
-use Rattle.vt_walk.specs.Reads.{AreAskedFor, OnTold}
+use Rattle.vt_walk.specs.Reads.{AreAskedFor, OnKnown}
 use Rattle.vt_walk.specs.Written.{AreWritten}
 
 -- a run has reached a picture: all pictures before it are finished, and it has no pass of a later one
@@ -23,13 +23,13 @@ HasReached w (p ∷ passes) picture = (picture ≡ p.picture) ⊎ (IsFinished w 
 -- pictures are whole, and the store was asked for its tiles alone, each once
 pub record Stands (drawn : PictureDrawn) (g : WalkGiven) (run : List WalkPass) (pictures : List (List ℕ))
     (first now : WalkState) : Type 0 where
-  pub is_run : IsRun g.setup run
+  pub is_run : IsWalkRun g.setup run
   pub reached : HasReached g.setup run (length pictures)
   pub written : AreWritten drawn g run pictures
   pub files : IsApart g.names → now.files ≡ option_map (with_walk g.names (run_text g.setup run) pictures) first.files
   pub there : IsThere now.files g.names.journal
   pub held : now.held ≡ option_map (gained (picture_lines run (length pictures))) first.held
-  pub asked : OnTold (AreAskedFor g.scene.shape g.scene.depth g.setup.pinned (planned_in run) (lost_in run)) first.asked now.asked
+  pub asked : OnKnown (AreAskedFor g.scene.shape g.scene.depth g.setup.pinned (planned_in run) (lost_in run)) first.asked now.asked
   pub faults : RoseBy (length (lost_in run)) first.faults now.faults
   pub out_faults : first.out_faults ≤ now.out_faults
 
@@ -38,10 +38,10 @@ pub record Stands (drawn : PictureDrawn) (g : WalkGiven) (run : List WalkPass) (
 -- all their text, the store was asked for the run's tiles alone, each once, and the folder's count rose at least by the lost ones
 pub record Finished (drawn : PictureDrawn) (g : WalkGiven) (first now : WalkState) : Type 0 where
   pub run : List WalkPass
-  pub is_run : IsRun g.setup run
+  pub is_run : IsWalkRun g.setup run
   pub whole : IsWhole g.setup run
   pub judged : g.setup.pinned ≤ g.setup.frames
-  pub fits : g.setup.mode ≡ Settled → (picture : ℕ) → picture < g.setup.pictures → Fits g.setup picture
+  pub fits : g.setup.mode ≡ Settled → (picture : ℕ) → picture < g.setup.pictures → PictureFits g.setup picture
   pub legal : AreLegal g.setup.shape (journal_after g.setup run)
   pub pinned : Pinned g.setup.shape (journal_after g.setup run) g.setup.pinned
   pub pictures : List (List ℕ)
@@ -49,5 +49,5 @@ pub record Finished (drawn : PictureDrawn) (g : WalkGiven) (first now : WalkStat
   pub written : AreWritten drawn g run pictures
   pub files : IsApart g.names → now.files ≡ option_map (with_walk g.names (run_text g.setup run) pictures) first.files
   pub held : now.held ≡ option_map (gained (log_text g.setup run)) first.held
-  pub asked : OnTold (AreAskedFor g.scene.shape g.scene.depth g.setup.pinned (planned_in run) (lost_in run)) first.asked now.asked
+  pub asked : OnKnown (AreAskedFor g.scene.shape g.scene.depth g.setup.pinned (planned_in run) (lost_in run)) first.asked now.asked
   pub faults : RoseBy (length (lost_in run)) first.faults now.faults

@@ -6,8 +6,8 @@ use Rattle.vt_outside.specs.declared.place.Place.{Place}
 use Rattle.vt_outside.specs.declared.outside.Folder.{Ghosts as FolderMeanings}
 use Rattle.vt_walk_decisions.specs.Requests.{FileState, counts_of}
 
--- what the folder holds and the text that was put, where they are told; the counts of faults of the folder and of the sink; and the
--- places that were asked of the store's name, where they are told. The folder's count and the places are taken with those of the
+-- what the folder holds and the text that was put, where they are known; the counts of faults of the folder and of the sink; and the
+-- places that were asked of the store's name, where they are known. The folder's count and the places are taken with those of the
 -- files that are open, which are closed with them
 pub record WalkState : Type 0 where
   pub files : Option Files
@@ -32,5 +32,5 @@ walk_state d store folder opened held out_faults = record {
 
 -- so many files of a name are open, and each tells its places where the folder does
 pub record AreOpen (n : ℕ) (name : List ℕ) (asked : Option Asked) (opened : List FileState) : Type 0 where
-  pub tell : map (λ f. is_some f.asked) opened ≡ replicate n (is_some asked)
+  pub all_known : map (λ f. is_some f.asked) opened ≡ replicate n (is_some asked)
   pub named : IsSome asked → map (λ f. f.name) opened ≡ replicate n name

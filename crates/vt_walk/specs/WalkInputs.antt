@@ -13,9 +13,9 @@ use Rattle.vt_walk.specs.Walks.{WalkGiven, given_by, walk_setup, names_of, AreSe
 abbrev pub input_scene : WalkInput → Scene
 input_scene t = scene_of t.geometry.now t.depth t.path.now
 
--- the walk of an input, by how a machine draws and the store's bytes, where they are told
+-- the walk of an input, by how a machine draws and the store's bytes, where they are known
 abbrev pub given_of : Drawing → WalkInput → Option (List ℕ) → WalkGiven
-given_of draws t told = given_by draws (input_scene t) t.settings t.mode told (names_of t.names)
+given_of draws t known = given_by draws (input_scene t) t.settings t.mode known (names_of t.names)
 
 -- the numbers of the walk of an input
 abbrev pub setup_of_input : Drawing → WalkInput → WalkSetup

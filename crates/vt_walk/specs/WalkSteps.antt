@@ -2,12 +2,12 @@
 use Rattle.std.specs.Prelude.{◌≡◌, ℕ, ◌+◌, ◌<◌, ◌≤◌, IsTrue, ◌↔◌, List, [], ◌∷◌, length, Option, IsSome}
 use Rattle.vt_ppm.specs.Depths.{IsDepth}
 use Rattle.vt_pages.specs.Pages.{IsWithinLimits}
-use Rattle.vt_tiles.specs.StoreViews.{IsStoreIfTold}
+use Rattle.vt_tiles.specs.StoreViews.{IsStoreIfKnown}
 use Rattle.vt_journal.specs.Passes.{pass_of as text_of}
 use Rattle.vt_plan.specs.Views.{RecencyView, pages_needed}
 use Rattle.vt_walk_decisions.specs.MachineTypes.crew.PassReport.{PassReport}
 use Rattle.vt_walk_decisions.specs.Jobs.{Job}
-use Rattle.vt_walk_decisions.specs.Requests.{FileState, AllTell, AreReadFor}
+use Rattle.vt_walk_decisions.specs.Requests.{FileState, AllKnown, AreReadFor}
 use Rattle.vt_walk_decisions.specs.Outcomes.{lost_count}
 use Rattle.vt_walk_decisions.specs.Machines.{MachineState}
 use Rattle.vt_walk_decisions.specs.Passes.{Ran}
@@ -16,25 +16,25 @@ use Rattle.vt_walk_decisions.specs.declared.steps.WalkStep.{WalkStep}
 use Rattle.vt_walk_decisions.specs.declared.steps.Passed.{Passed}
 use Rattle.vt_walk_decisions.specs.declared.steps.Drawn.{Drawn}
 use Rattle.vt_walk.specs.DrawnBy.{PictureDrawn, AnyRow}
-use Rattle.vt_walk.specs.Runs.{WalkPass, IsWalkSetup, IsRun, IsStepOf, IsNextPass, IsWhole, journal_after, recency_after, plan_after, told_of}
+use Rattle.vt_walk.specs.Runs.{WalkPass, IsWalkSetup, IsWalkRun, IsStepOf, IsNextPass, IsWhole, journal_after, recency_after, plan_after, content_pass}
 use Rattle.vt_walk.specs.Logs.{passes_of, reads_of}
-use Rattle.vt_walk.specs.Walks.{WalkGiven, machine_of}
+use Rattle.vt_walk.specs.Walks.{WalkGiven, setup_of_walk}
 use Rattle.vt_walk.specs.States.{WalkState}
 use Rattle.vt_walk.specs.Standing.{Stands}
 use Rattle.vt_walk.specs.Leaving.{Left}
 use Rattle.vt_walk.specs.Causes.{IsCausedBy}
 use Rattle.vt_walk.specs.Tallies.{tally_of}
 
--- a walk is within its limits, and its bytes, where they are told, are a store
+-- a walk is within its limits, and its bytes, where they are known, are a store
 pub record IsGiven (g : WalkGiven) : Type 0 where
   pub setup : IsWalkSetup g.setup
   pub limits : IsWithinLimits g.scene.shape
-  pub store : IsStoreIfTold g.told g.scene.shape g.scene.depth
+  pub store : IsStoreIfKnown g.known g.scene.shape g.scene.depth
   pub depth : IsDepth g.scene.depth
 
--- what a walk began with: the store's bytes, where they are told, the store's file, and what was there
+-- what a walk began with: the store's bytes, where they are known, the store's file, and what was there
 pub record WalkStart : Type 0 where
-  pub told : Option (List ℕ)
+  pub known : Option (List ℕ)
   pub kept : FileState
   pub first : WalkState
 
@@ -46,8 +46,8 @@ pub record PassStart : Type 0 where
 
 -- a machine and the recency of its pages are as a run has left them
 pub record IsAtRun (g : WalkGiven) (run : List WalkPass) (m : MachineState) (v : RecencyView) : Type 0 where
-  pub is_run : IsRun g.setup run
-  pub setup : m.setup ≡ machine_of g
+  pub is_run : IsWalkRun g.setup run
+  pub setup : m.setup ≡ setup_of_walk g
   pub journal : m.journal ≡ journal_after g.setup run
   pub recency : v ≡ recency_after g.setup run
 
@@ -62,21 +62,21 @@ pub record IsStep (g : WalkGiven) (run : List WalkPass) (number : ℕ) (t : Walk
   pub number_is : number ≡ length run + 1
 
 -- a machine may take a step
-pub record MayDraw (g : WalkGiven) (run : List WalkPass) (number : ℕ) (t : WalkStep) (m : MachineState) (v : RecencyView) : Type 0 where
+pub record MayTakeStep (g : WalkGiven) (run : List WalkPass) (number : ℕ) (t : WalkStep) (m : MachineState) (v : RecencyView) : Type 0 where
   pub given : IsGiven g
   pub at_run : IsAtRun g run m v
   pub step : IsStep g run number t
   pub more : t.picture < g.setup.pictures
 
 -- what was counted of a pass that comes after a run
-pub record IsPassed (g : WalkGiven) (run : List WalkPass) (pass : WalkPass) (p : Passed) : Type 0 where
+pub record IsCountedPass (g : WalkGiven) (run : List WalkPass) (pass : WalkPass) (p : Passed) : Type 0 where
   pub picture : p.picture ≡ pass.picture
   pub inside : pass.picture < g.setup.pictures
   pub loads_nothing : IsTrue p.loads_nothing ↔ (pass.batch ≡ [])
   pub lost : p.lost ≡ lost_count pass.losses
-  pub wanted : p.outlook.wanted ≡ length pass.wants
-  pub needed : p.outlook.needed ≡ pages_needed (recency_after g.setup (pass ∷ run)) pass.wants
-  pub plan : p.outlook.plan.elements ≡ plan_after g.setup (pass ∷ run)
+  pub wanted : p.next_plan.wanted ≡ length pass.wants
+  pub needed : p.next_plan.needed ≡ pages_needed (recency_after g.setup (pass ∷ run)) pass.wants
+  pub plan : p.next_plan.plan.elements ≡ plan_after g.setup (pass ∷ run)
   pub tally : p.tally ≡ tally_of (passes_of pass.picture (pass ∷ run))
   pub reads : p.reads ≡ reads_of g.setup (pass ∷ run)
 
@@ -89,7 +89,7 @@ pub record HasRun (drawn : PictureDrawn) (g : WalkGiven) (run : List WalkPass) (
     (m : MachineState) : Type 0 where
   pub before : MachineState
   pub report : PassReport
-  pub setup : before.setup ≡ machine_of g
+  pub setup : before.setup ≡ setup_of_walk g
   pub journal : before.journal ≡ journal_after g.setup run
   pub ran : Ran g.draws AnyRow (job_for g pass) report before m
   pub by : drawn m g.scene.path pass.picture report.rows.elements
@@ -105,11 +105,11 @@ pub record HasDrawnPass (drawn : PictureDrawn) (g : WalkGiven) (run : List WalkP
   pub at_run : IsAtRun g (pass ∷ run) after v
   pub read : AreReadFor g.scene.shape g.scene.depth pass.batch pass.losses before.files after.files
   pub has_run : HasRun drawn g run pass after
-  pub text : text_of d.text ≡ told_of g.setup run pass
-  pub passed : IsPassed g run pass d.passed
+  pub text : text_of d.text ≡ content_pass g.setup run pass
+  pub passed : IsCountedPass g run pass d.passed
 
 -- the beginning of a run is whole, and the step is that of its next pass
-pub record StandsAt (drawn : PictureDrawn) (g : WalkGiven) (number : ℕ) (t : WalkStep) (first now : WalkState)
+pub record StandsAtStep (drawn : PictureDrawn) (g : WalkGiven) (number : ℕ) (t : WalkStep) (first now : WalkState)
     (m : MachineState) (v : RecencyView) : Type 0 where
   pub run : List WalkPass
   pub pictures : List (List ℕ)
@@ -118,7 +118,7 @@ pub record StandsAt (drawn : PictureDrawn) (g : WalkGiven) (number : ℕ) (t : W
   pub stands : Stands drawn g run pictures first now
   pub at_run : IsAtRun g run m v
   pub step : IsStep g run number t
-  pub tell : IsSome now.asked → AllTell m.files
+  pub all_known : IsSome now.asked → AllKnown m.files
 
 -- the beginning of a run is whole, and its newest pass has just been made
 pub record StandsAfter (drawn : PictureDrawn) (g : WalkGiven) (number : ℕ) (p : Passed)
@@ -130,17 +130,17 @@ pub record StandsAfter (drawn : PictureDrawn) (g : WalkGiven) (number : ℕ) (p 
   pub given : IsGiven g
   pub stands : Stands drawn g (pass ∷ run) pictures first now
   pub at_run : IsAtRun g (pass ∷ run) m v
-  pub passed : IsPassed g run pass p
+  pub passed : IsCountedPass g run pass p
   pub has_run : HasRun drawn g run pass m
   pub number_is : number ≡ length run + 1
-  pub tell : IsSome now.asked → AllTell m.files
+  pub all_known : IsSome now.asked → AllKnown m.files
 
 -- a run has begun: nothing but the journal's head is there
 pub record StandsFirst (drawn : PictureDrawn) (g : WalkGiven) (first now : WalkState) (m : MachineState) (v : RecencyView) : Type 0 where
   pub given : IsGiven g
   pub stands : Stands drawn g [] [] first now
   pub at_run : IsAtRun g [] m v
-  pub tell : IsSome now.asked → AllTell m.files
+  pub all_known : IsSome now.asked → AllKnown m.files
 
 -- a run is whole, in which so many tiles were asked for
 pub record StandsLast (drawn : PictureDrawn) (g : WalkGiven) (reads : ℕ) (first now : WalkState) : Type 0 where

@@ -22,19 +22,19 @@ pub record WalkNames : Type 0 where
   pub prefix : List ℕ
   pub journal : List ℕ
 
--- a walk: its numbers, what its pictures are of, its crew, the bytes of its store, where they are told, its names, and how its machine
+-- a walk: its numbers, what its pictures are of, its crew, the bytes of its store, where they are known, its names, and how its machine
 -- draws
 pub record WalkGiven : Type 0 where
   pub setup : WalkSetup
   pub scene : Scene
   pub crew : Crew
-  pub told : Option (List ℕ)
+  pub known : Option (List ℕ)
   pub names : WalkNames
   pub draws : Drawing
 
 -- what the machine of a walk is made for
-abbrev pub machine_of : WalkGiven → Setup
-machine_of g = setup_of g.scene.shape g.scene.depth g.scene.path g.setup.frames g.crew g.told
+abbrev pub setup_of_walk : WalkGiven → Setup
+setup_of_walk g = setup_of g.scene.shape g.scene.depth g.scene.path g.setup.frames g.crew g.known
 
 -- the names as texts
 abbrev pub names_of : Names → WalkNames
@@ -60,13 +60,13 @@ walk_setup draws scene settings mode = record {
   needs = draws.needs scene;
 }
 
--- a walk by how a machine draws, a scene, settings, a mode, the store's bytes, where they are told, and names
+-- a walk by how a machine draws, a scene, settings, a mode, the store's bytes, where they are known, and names
 abbrev pub given_by : Drawing → Scene → Settings → Mode → Option (List ℕ) → WalkNames → WalkGiven
-given_by draws scene settings mode told names = record {
+given_by draws scene settings mode known names = record {
   setup = walk_setup draws scene settings mode;
   scene = scene;
   crew = settings.crew;
-  told = told;
+  known = known;
   names = names;
   draws = draws;
 }

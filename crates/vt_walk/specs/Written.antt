@@ -6,15 +6,15 @@ use Rattle.vt_walk_decisions.specs.Replays.{IsFull, IsPictureOf}
 use Rattle.vt_walk_decisions.specs.declared.mode.Mode.TheVariants.{Settled}
 use Rattle.vt_walk_decisions.specs.Machines.{MachineState}
 use Rattle.vt_walk.specs.DrawnBy.{PictureDrawn}
-use Rattle.vt_walk.specs.Walks.{WalkGiven, machine_of}
+use Rattle.vt_walk.specs.Walks.{WalkGiven, setup_of_walk}
 use Rattle.vt_walk.specs.Runs.{WalkPass, journal_after}
 use Rattle.vt_walk.specs.Shown.{last_rows, run_through, IsRunPicture}
 
 -- the samples are the rows of a machine of the walk as it was after the picture's last pass: its journal is the run's up to there, there is a line
 -- for each row, each row is full, and the machine drew it at the version that its line names
-pub record AreDrawn (drawn : PictureDrawn) (g : WalkGiven) (run : List WalkPass) (picture : ℕ) (samples : List ℕ) : Type 0 where
+pub record AreFinalRows (drawn : PictureDrawn) (g : WalkGiven) (run : List WalkPass) (picture : ℕ) (samples : List ℕ) : Type 0 where
   pub machine : MachineState
-  pub setup : machine.setup ≡ machine_of g
+  pub setup : machine.setup ≡ setup_of_walk g
   pub journal : machine.journal ≡ journal_after g.setup (run_through run picture)
   pub joined : samples ≡ concat machine.rows
   pub count : length machine.rows ≡ g.scene.path.height
@@ -27,10 +27,10 @@ pub record AreDrawn (drawn : PictureDrawn) (g : WalkGiven) (run : List WalkPass)
 pub record IsWritten (drawn : PictureDrawn) (g : WalkGiven) (run : List WalkPass) (picture : ℕ) (bytes : List ℕ) : Type 0 where
   pub samples : List ℕ
   pub encoded : bytes ≡ picture_bytes g.scene.depth g.scene.path.width g.scene.path.height samples
-  pub replay : IfSome g.told (λ b. IsRunPicture g.setup run g.scene.depth g.scene.path.width (g.draws.shows g.scene b) picture samples)
+  pub replay : IfSome g.known (λ b. IsRunPicture g.setup run g.scene.depth g.scene.path.width (g.draws.shows g.scene b) picture samples)
   pub plain : g.setup.mode ≡ Settled
-      → IfSome g.told (λ b. IsPictureOf g.scene.depth g.scene.path.width g.scene.path.height (λ x y. g.draws.whole g.scene b picture x y) samples)
-  pub from_draws : AreDrawn drawn g run picture samples
+      → IfSome g.known (λ b. IsPictureOf g.scene.depth g.scene.path.width g.scene.path.height (λ x y. g.draws.whole g.scene b picture x y) samples)
+  pub from_draws : AreFinalRows drawn g run picture samples
 
 -- the bytes of the first pictures of a run, the newest first
 abbrev pub AreWritten : PictureDrawn → WalkGiven → List WalkPass → List (List ℕ) → Type 0

@@ -5,10 +5,10 @@ ghost use Rattle.vt_walk_decisions.specs.Requests.{AreSameFiles, ArePartlyReadFo
 ghost use Rattle.vt_walk.specs.WalkInputs.{given_of, IsWalkInput};
 ghost use Rattle.vt_walk.specs.Runs.{WalkPass};
 ghost use Rattle.vt_walk.specs.DrawnBy.{IsDrawnBySome};
-ghost use Rattle.vt_walk.specs.WalkSteps.{MayDraw, HasDrawnPass};
+ghost use Rattle.vt_walk.specs.WalkSteps.{MayTakeStep, HasDrawnPass};
 ghost use Rattle.vt_walk.specs.Following.{PassBefore, MayStep, HasRunStep, DrawsNext};
 
-use crate::passes::{look_out, run_pass};
+use crate::passes::{plan_next, run_pass};
 use std::alloc::Global;
 use std::sync::Wait;
 use std::thread::Threads;
@@ -30,11 +30,11 @@ pub fn draw_next<Rt: Threads + Wait + Sync, M: PassMachine, G: Gate + Sync>(
 ) -> Result<Next, NoMemory>
     requires input { IsWalkInput input.now }
     requires idle { M.is_idle machine.old }
-    requires may { (told : Option (List ℕ)) × (run : List WalkPass) × MayStep
-        (given_of M.drawing input.now told) run number step (M.state machine.old) recency.old }
-    ensures next { (told : Option (List ℕ)) (run : List WalkPass) → MayStep
-        (given_of M.drawing input.now told) run number step (M.state machine.old) recency.old
-        → IfOk result (DrawsNext (IsDrawnBySome M.PassMachine) (given_of M.drawing input.now told) run step
+    requires may { (known : Option (List ℕ)) × (run : List WalkPass) × MayStep
+        (given_of M.drawing input.now known) run number step (M.state machine.old) recency.old }
+    ensures next { (known : Option (List ℕ)) (run : List WalkPass) → MayStep
+        (given_of M.drawing input.now known) run number step (M.state machine.old) recency.old
+        → IfOk result (DrawsNext (IsDrawnBySome M.PassMachine) (given_of M.drawing input.now known) run step
         (M.state machine.old) (M.state machine.new) recency.new) }
     ensures more { OnErr result (step.picture < length input.now.path.now.cameras) }
     ensures refused { OnErr result (ArePartlyReadFor input.now.geometry.now input.now.depth step.batch.elements
@@ -64,11 +64,11 @@ fn draw_pass<Rt: Threads + Wait + Sync, M: PassMachine, G: Gate + Sync>(
 ) -> Result<Drawn, NoMemory>
     requires input { IsWalkInput input.now }
     requires idle { M.is_idle machine.old }
-    requires may { (told : Option (List ℕ)) × (run : List WalkPass) × MayDraw
-        (given_of M.drawing input.now told) run number step (M.state machine.old) recency.old }
-    ensures drawn { (told : Option (List ℕ)) (run : List WalkPass) → MayDraw
-        (given_of M.drawing input.now told) run number step (M.state machine.old) recency.old
-        → IfOk result (HasDrawnPass (IsDrawnBySome M.PassMachine) (given_of M.drawing input.now told) run step
+    requires may { (known : Option (List ℕ)) × (run : List WalkPass) × MayTakeStep
+        (given_of M.drawing input.now known) run number step (M.state machine.old) recency.old }
+    ensures drawn { (known : Option (List ℕ)) (run : List WalkPass) → MayTakeStep
+        (given_of M.drawing input.now known) run number step (M.state machine.old) recency.old
+        → IfOk result (HasDrawnPass (IsDrawnBySome M.PassMachine) (given_of M.drawing input.now known) run step
         (M.state machine.old) (M.state machine.new) recency.new) }
     ensures refused { OnErr result (ArePartlyReadFor input.now.geometry.now input.now.depth step.batch.elements
         (M.state machine.old).files (M.state machine.new).files) }
@@ -99,15 +99,15 @@ pub fn plan_on<M: PassMachine>(
 ) -> Result<Drawn, NoMemory>
     requires input { IsWalkInput input.now }
     requires idle { M.is_idle machine.now }
-    requires ran { (b : PassBefore) × HasRunStep (IsDrawnBySome M.PassMachine) (given_of M.drawing input.now b.told) b.run
+    requires ran { (b : PassBefore) × HasRunStep (IsDrawnBySome M.PassMachine) (given_of M.drawing input.now b.known) b.run
         number step start report b.machine (M.state machine.now) recency.old }
-    ensures { (b : PassBefore) → HasRunStep (IsDrawnBySome M.PassMachine) (given_of M.drawing input.now b.told) b.run
+    ensures { (b : PassBefore) → HasRunStep (IsDrawnBySome M.PassMachine) (given_of M.drawing input.now b.known) b.run
         number step start report b.machine (M.state machine.now) recency.old
-        → IfOk result (HasDrawnPass (IsDrawnBySome M.PassMachine) (given_of M.drawing input.now b.told) b.run step b.machine
+        → IfOk result (HasDrawnPass (IsDrawnBySome M.PassMachine) (given_of M.drawing input.now b.known) b.run step b.machine
         (M.state machine.now) recency.new) }
 {
     let most = input.settings.crew.batch;
-    let outlook = look_out(
+    let next_plan = plan_next(
         alloc,
         input.geometry,
         machine.counts(),
@@ -116,5 +116,5 @@ pub fn plan_on<M: PassMachine>(
         &report.losses,
         most,
     )?;
-    Ok(drawn_of(number, step, start, report, outlook))
+    Ok(drawn_of(number, step, start, report, next_plan))
 }

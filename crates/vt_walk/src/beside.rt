@@ -6,7 +6,7 @@ ghost use Rattle.std.specs.Thread.{IsSync, IsSend};
 ghost use Rattle.vt_ppm.specs.Picture.{picture_bytes};
 ghost use Rattle.vt_pictures.specs.Names.{picture_name};
 ghost use Rattle.vt_walk_decisions.specs.Jobs.{job_of};
-ghost use Rattle.vt_walk_decisions.specs.Passes.{MayPrepare, IsJobFor, Ends};
+ghost use Rattle.vt_walk_decisions.specs.Passes.{MayPrepare, IsJobFor, EndsPassRun};
 ghost use Rattle.vt_walk_decisions.specs.Judging.{MayGoOn, IsFollowed};
 ghost use Rattle.vt_walk.specs.WalkInputs.{IsWalkInput};
 ghost use Rattle.vt_walk.specs.Writing.{WritesFile};
@@ -147,14 +147,14 @@ fn write_beside<
         rt,
         machine,
         &shot,
-        &passed.outlook.plan,
+        &passed.next_plan.plan,
         gate,
         folder,
         name,
         bytes,
     );
     written?;
-    put_picture_line(out, passed.picture, passed.outlook.wanted, &passed.tally)?;
+    put_picture_line(out, passed.picture, passed.next_plan.wanted, &passed.tally)?;
     let report = ran?;
     Ok(report)
 }
@@ -173,7 +173,7 @@ fn run_and_write<Rt: Threads + Wait + Sync, M: PassMachine + Send, D: Folder, G:
     requires idle { M.is_idle machine.old }
     requires may { MayPrepare (M.state machine.old) batch.now.elements }
     requires job { IsJobFor (M.state machine.old).setup (job_of shot.now batch.now.elements) }
-    ensures ran { Ends M.drawing (M.drawn machine.new) (M.is_idle machine.new) (job_of shot.now batch.now.elements)
+    ensures ran { EndsPassRun M.drawing (M.drawn machine.new) (M.is_idle machine.new) (job_of shot.now batch.now.elements)
         result.0 (M.state machine.old) (M.state machine.new) }
     ensures written { WritesFile D.Folder name.now bytes.now result.1 folder.old folder.new }
 {
@@ -183,7 +183,7 @@ fn run_and_write<Rt: Threads + Wait + Sync, M: PassMachine + Send, D: Folder, G:
             requires { IsSync Rt.row × IsSync G.row × IsSend M.row × M.is_idle machine.now
                 × MayPrepare (M.state machine.now) batch.now.elements
                 × IsJobFor (M.state machine.now).setup (job_of shot.now batch.now.elements) }
-            ensures { Ends M.drawing (M.drawn machine.exit.now) (M.is_idle machine.exit.now)
+            ensures { EndsPassRun M.drawing (M.drawn machine.exit.now) (M.is_idle machine.exit.now)
                 (job_of shot.entry.now batch.entry.now.elements) result (M.state machine.entry.now)
                 (M.state machine.exit.now) }
         { run_pass(rt, machine, shot, batch, gate) },

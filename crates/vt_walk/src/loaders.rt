@@ -4,7 +4,7 @@ ghost use Rattle.std.specs.Prelude.{◌≡◌, ◌≤◌, [], length, sum, All, 
 ghost use Rattle.vt_ppm.specs.Depths.{IsDepth};
 ghost use Rattle.vt_outside.specs.Counts.{Rose, RoseBy};
 ghost use Rattle.vt_outside.specs.Files.{bytes_at, IsThere};
-ghost use Rattle.vt_tiles.specs.StoreViews.{IsStoreIfTold};
+ghost use Rattle.vt_tiles.specs.StoreViews.{IsStoreIfKnown};
 ghost use Rattle.vt_walk_decisions.specs.Requests.{counts_of};
 ghost use Rattle.vt_walk_decisions.specs.Machines.{files_of};
 ghost use Rattle.vt_walk.specs.Closing.{with_closed, AreFresh};
@@ -26,7 +26,7 @@ pub fn open_loaders<D: Folder>(
     loaders: u32,
 ) -> Result<Stores<D::File>, OutsideError>
     requires depth { IsDepth depth }
-    requires store { IsStoreIfTold (bytes_at (D.files folder.old) name.now) geometry.now depth }
+    requires store { IsStoreIfKnown (bytes_at (D.files folder.old) name.now) geometry.now depth }
     requires there { IsThere (D.files folder.old) name.now }
     requires some { 1 ≤ loaders }
     ensures fresh { IfOk result (λ stores. AreFresh D.File.File geometry.now depth loaders name.now (D.asked folder.old)
@@ -56,7 +56,7 @@ fn open_into<D: Folder>(
     stores: &mut Stores<D::File>,
 ) -> Result<(), OutsideError>
     requires depth { IsDepth depth }
-    requires store { IsStoreIfTold (bytes_at (D.files folder.old) name.now) geometry.now depth }
+    requires store { IsStoreIfKnown (bytes_at (D.files folder.old) name.now) geometry.now depth }
     requires there { IsThere (D.files folder.old) name.now }
     requires none { stores.old.elements ≡ [] }
     ensures fresh { All (IsFresh D.File.File geometry.now depth name.now (D.asked folder.old)

@@ -7,9 +7,9 @@ ghost use Rattle.vt_outside.specs.Files.{with_appended, IsThere};
 ghost use Rattle.vt_pages.specs.Pages.{pages_of};
 ghost use Rattle.vt_journal.specs.JournalText.{IsEventInChain, pass_text};
 ghost use Rattle.vt_journal.specs.Passes.{pass_of};
-ghost use Rattle.vt_evict.specs.Batches.{IsLawful};
+ghost use Rattle.vt_evict.specs.Batches.{IsLawfulBatch};
 ghost use Rattle.vt_walk_decisions.specs.Jobs.{job_of};
-ghost use Rattle.vt_walk_decisions.specs.Passes.{MayPrepare, IsJobFor, Ends};
+ghost use Rattle.vt_walk_decisions.specs.Passes.{MayPrepare, IsJobFor, EndsPassRun};
 ghost use Rattle.vt_walk.specs.Outlooks.{IsOutlook};
 
 use std::alloc::Global;
@@ -21,7 +21,7 @@ use vt_journal::{PassText, add_pass};
 use vt_outside::{Folder, Gate, NoMemory, OutsideError};
 use vt_pages::Geometry;
 use vt_pictures::Shot;
-use vt_walk_decisions::{Outlook, PassMachine, PassReport};
+use vt_walk_decisions::{NextPlan, PassMachine, PassReport};
 
 /// Prepares a pass for a batch and runs it.
 pub fn run_pass<Rt: Threads + Wait + Sync, M: PassMachine, G: Gate + Sync>(
@@ -34,7 +34,7 @@ pub fn run_pass<Rt: Threads + Wait + Sync, M: PassMachine, G: Gate + Sync>(
     requires idle { M.is_idle machine.old }
     requires may { MayPrepare (M.state machine.old) batch.now.elements }
     requires job { IsJobFor (M.state machine.old).setup (job_of shot.now batch.now.elements) }
-    ensures { Ends M.drawing (M.drawn machine.new) (M.is_idle machine.new)
+    ensures { EndsPassRun M.drawing (M.drawn machine.new) (M.is_idle machine.new)
         (job_of shot.now batch.now.elements) result (M.state machine.old) (M.state machine.new) }
 {
     machine.prepare(rt, batch)?;
@@ -43,7 +43,7 @@ pub fn run_pass<Rt: Threads + Wait + Sync, M: PassMachine, G: Gate + Sync>(
 
 /// Settles a batch of which some entries were lost, makes the pages that the counts want the most recent ones, and
 /// plans for them with at most `most` entries.
-pub fn look_out(
+pub fn plan_next(
     alloc: Global,
     geometry: &Geometry,
     counts: &Counts,
@@ -51,10 +51,10 @@ pub fn look_out(
     batch: &Batch,
     losses: &Losses,
     most: u32,
-) -> Result<Outlook, NoMemory>
+) -> Result<NextPlan, NoMemory>
     requires counts { length counts.now ≡ pages_of geometry.now }
     requires shape { recency.old.shape ≡ geometry.now }
-    requires lawful { IsLawful recency.old batch.now.elements }
+    requires lawful { IsLawfulBatch recency.old batch.now.elements }
     requires lost_for_all { length losses.now.elements ≡ length batch.now.elements }
     ensures { IfOk result (IsOutlook geometry.now (slice_index counts.now)
         most recency.old batch.now.elements losses.now.elements recency.new) }
@@ -64,7 +64,7 @@ pub fn look_out(
     recency.touch(&wants);
     let needed = recency.needed(alloc, &wants)?;
     let plan = recency.plan(alloc, &wants, most)?;
-    Ok(Outlook {
+    Ok(NextPlan {
         wanted: wants.len() as u64,
         needed,
         plan,
@@ -83,7 +83,7 @@ fn make_text(buffer: &mut Vec<u8>, geometry: &Geometry, pass: &PassText) -> Resu
 
 /// Adds the text of a pass, which is made in a buffer, to the journal, in one call. After a refusal a prefix of
 /// it was added.
-pub fn tell_pass<D: Folder>(
+pub fn journal_pass<D: Folder>(
     buffer: &mut Vec<u8>,
     folder: &mut D,
     journal: &str,

@@ -9,7 +9,7 @@ ghost use Rattle.vt_journal.specs.declared.changes.Change.TheVariants.{Map};
 ghost use Rattle.vt_journal.specs.Changes.{newest, IsNext};
 ghost use Rattle.vt_walk_decisions.specs.Crews.{last_start};
 ghost use Rattle.vt_walk_decisions.specs.Passes.{with_placed};
-ghost use Rattle.vt_walk.specs.Reads.{AreAskedFor, AreAskedAtMostFor, OnTold, lost_reads};
+ghost use Rattle.vt_walk.specs.Reads.{AreAskedFor, AreAskedAtMostFor, OnKnown, lost_reads};
 ghost use Rattle.vt_walk.specs.Placing.{IsStoreOf, with_pinned};
 
 use std::alloc::Global;
@@ -40,13 +40,13 @@ pub fn place_pinned<Rt: Threads + Wait + Sync, M: PassMachine, F: File>(
     ensures placed { OnOk result (M.state machine.new ≡ with_pinned geometry.now pinned (M.state machine.old)) }
     ensures idle { OnOk result (M.is_idle machine.new) }
     ensures files { (M.state machine.new).files ≡ (M.state machine.old).files }
-    ensures asked { OnOk result (OnTold (AreAskedFor geometry.now store.old.depth pinned [] []) (F.asked store.old.file)
+    ensures asked { OnOk result (OnKnown (AreAskedFor geometry.now store.old.depth pinned [] []) (F.asked store.old.file)
         (F.asked store.new.file)) }
-    ensures part { OnErr result (OnTold (AreAskedAtMostFor geometry.now store.old.depth pinned [])
+    ensures part { OnErr result (OnKnown (AreAskedAtMostFor geometry.now store.old.depth pinned [])
         (F.asked store.old.file)
         (F.asked store.new.file)) }
     // A failed read of a pinned tile is no lost tile.
-    ensures lost { OnTold (λ old new. lost_reads geometry.now store.old.depth pinned new ≡ lost_reads geometry.now
+    ensures lost { OnKnown (λ old new. lost_reads geometry.now store.old.depth pinned new ≡ lost_reads geometry.now
         store.old.depth pinned old)
         (F.asked store.old.file) (F.asked store.new.file) }
     ensures failed { IsErrOf result OutsideError.Failed → Rose (F.faults store.old.file) (F.faults store.new.file) }

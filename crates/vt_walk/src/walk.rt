@@ -3,7 +3,7 @@
 ghost use Rattle.std.specs.Prelude.{◌≡◌, ℕ, ◌<◌, ◌≤◌, List, [], ◌∷◌, sum, Option, is_some, IfOk, MatchResult, OnOk};
 ghost use Rattle.vt_outside.specs.Files.{bytes_at};
 ghost use Rattle.vt_pages.specs.Pages.{pinned_of};
-ghost use Rattle.vt_tiles.specs.StoreViews.{IsStoreIfTold};
+ghost use Rattle.vt_tiles.specs.StoreViews.{IsStoreIfKnown};
 ghost use Rattle.vt_walk_decisions.specs.Scenes.{scene_of};
 ghost use Rattle.vt_walk_decisions.specs.Machines.{file_state};
 ghost use Rattle.vt_walk.specs.Walks.{given_to, walk_setup, mode_of, AreSettings};
@@ -13,7 +13,7 @@ ghost use Rattle.vt_walk.specs.DrawnBy.{IsDrawnBySome};
 ghost use Rattle.vt_walk.specs.WalkSteps.{StandsFirst, LeftByRefusal};
 ghost use Rattle.vt_walk.specs.WalkEffects.{walk_effect, file_of, Walks};
 ghost use Rattle.vt_walk.specs.WalkInputs.{given_of, setup_of_input, IsWalkInput};
-ghost use Rattle.vt_walk.specs.Beginnings.{IsBegun, AreTold, IsSameFile};
+ghost use Rattle.vt_walk.specs.Beginnings.{IsBegun, AreKnown, IsSameFile};
 ghost use Rattle.vt_walk_decisions.specs.Requests.{AreSameFiles, counts_of};
 ghost use Rattle.vt_walk.specs.Closing.{AreFresh, AreOtherNamesAsBefore};
 
@@ -54,7 +54,7 @@ pub fn walk_counted<
 ) -> Result<Walked, WalkError>
     requires settings { AreSettings store.shape settings.now }
     requires bytes { D.File.bytes store.file ≡ bytes_at (D.files folder.old) names.now.store.now }
-    requires tells { is_some (D.File.bytes store.file) ≡ is_some (D.files folder.old) }
+    requires known_too { is_some (D.File.bytes store.file) ≡ is_some (D.files folder.old) }
     requires opened { AreOpen 1 names.now.store.now (D.asked folder.old) (file_of D.File.File store) }
     ensures walked { Walks (IsDrawnBySome M.PassMachine) (given_to M.drawing D.File.File store path.now names.now settings.now settled)
         (walk_effect D.Folder O.Sink names.now.store.now (file_of D.File.File store) [] folder.old folder.new out.old
@@ -113,9 +113,9 @@ fn walk_store<
     requires input { IsWalkInput input.now }
     requires shape { store.old.shape ≡ input.now.geometry.now }
     requires depth { store.old.depth ≡ input.now.depth }
-    requires store { IsStoreIfTold (D.File.bytes store.old.file) store.old.shape store.old.depth }
+    requires store { IsStoreIfKnown (D.File.bytes store.old.file) store.old.shape store.old.depth }
     requires bytes { D.File.bytes store.old.file ≡ bytes_at (D.files folder.old) input.now.names.store.now }
-    requires tells { is_some (D.File.bytes store.old.file) ≡ is_some (D.files folder.old) }
+    requires known_too { is_some (D.File.bytes store.old.file) ≡ is_some (D.files folder.old) }
     requires opened { AreOpen 1 input.now.names.store.now (D.asked folder.old) (file_of D.File.File store.old) }
     ensures walked { Walks (IsDrawnBySome M.PassMachine) (given_of M.drawing input.now (D.File.bytes store.old.file))
         (walk_effect D.Folder O.Sink input.now.names.store.now (file_of D.File.File store.old)
@@ -171,7 +171,7 @@ fn walk_stores<
     requires enough_frames { input.now.pinned ≤ input.now.settings.frames }
     requires shape { store.old.shape ≡ input.now.geometry.now }
     requires depth { store.old.depth ≡ input.now.depth }
-    requires store { IsStoreIfTold (D.File.bytes store.old.file) store.old.shape store.old.depth }
+    requires store { IsStoreIfKnown (D.File.bytes store.old.file) store.old.shape store.old.depth }
     requires stores { AreFresh D.File.File input.now.geometry.now input.now.depth input.now.settings.crew.loaders
         input.now.names.store.now
         (D.asked folder.old) (D.File.bytes store.old.file) stores.elements }
@@ -226,7 +226,7 @@ fn walk_machine<
     requires enough_frames { input.now.pinned ≤ input.now.settings.frames }
     requires shape { store.old.shape ≡ input.now.geometry.now }
     requires depth { store.old.depth ≡ input.now.depth }
-    requires store { IsStoreIfTold (D.File.bytes store.old.file) store.old.shape store.old.depth }
+    requires store { IsStoreIfKnown (D.File.bytes store.old.file) store.old.shape store.old.depth }
     requires idle { M.is_idle machine }
     requires begins { IsBegun (given_of M.drawing input.now (D.File.bytes store.old.file))
         (M.state machine) }
@@ -270,11 +270,11 @@ fn walk_all<
     requires enough_frames { input.now.pinned ≤ input.now.settings.frames }
     requires shape { store.old.shape ≡ input.now.geometry.now }
     requires depth { store.old.depth ≡ input.now.depth }
-    requires store { IsStoreIfTold (D.File.bytes store.old.file) store.old.shape store.old.depth }
+    requires store { IsStoreIfKnown (D.File.bytes store.old.file) store.old.shape store.old.depth }
     requires idle { M.is_idle machine.old }
     requires begins { IsBegun (given_of M.drawing input.now (D.File.bytes store.old.file))
         (M.state machine.old) }
-    requires tell { AreTold (D.asked folder.old) (file_state D.File.File store.old.file ∷ (M.state machine.old).files) }
+    requires all_known { AreKnown (D.asked folder.old) (file_state D.File.File store.old.file ∷ (M.state machine.old).files) }
     ensures walked { Walks (IsDrawnBySome M.PassMachine) (given_of M.drawing input.now (D.File.bytes store.old.file))
         (walk_effect D.Folder O.Sink input.now.names.store.now
         (file_state D.File.File store.old.file ∷ (M.state machine.old).files)
@@ -315,11 +315,11 @@ fn begin<Rt: Threads + Wait + Sync, M: PassMachine, D: Folder>(
     requires enough_frames { input.now.pinned ≤ input.now.settings.frames }
     requires shape { store.old.shape ≡ input.now.geometry.now }
     requires depth { store.old.depth ≡ input.now.depth }
-    requires store { IsStoreIfTold (D.File.bytes store.old.file) store.old.shape store.old.depth }
+    requires store { IsStoreIfKnown (D.File.bytes store.old.file) store.old.shape store.old.depth }
     requires idle { M.is_idle machine.old }
     requires begins { IsBegun (given_of M.drawing input.now (D.File.bytes store.old.file))
         (M.state machine.old) }
-    requires tell { AreTold (D.asked folder.old) (file_state D.File.File store.old.file ∷ (M.state machine.old).files) }
+    requires all_known { AreKnown (D.asked folder.old) (file_state D.File.File store.old.file ∷ (M.state machine.old).files) }
     ensures begun { (held : Option (List ℕ)) (out_faults : ℕ) → let drawn = IsDrawnBySome M.PassMachine in
         let given = given_of M.drawing input.now (D.File.bytes store.old.file) in
         let name = input.now.names.store.now in

@@ -13,7 +13,7 @@ ghost use Rattle.vt_walk_decisions.specs.Judging.{MayGoOn};
 
 use crate::advance::draw_next;
 use crate::beside::draw_beside;
-use crate::passes::tell_pass;
+use crate::passes::journal_pass;
 use crate::pictures::{put_end_line, put_picture_line, write_picture};
 use std::alloc::Global;
 use std::sync::Wait;
@@ -21,7 +21,7 @@ use std::thread::Threads;
 use vt_evict::{Batch, Recency};
 use vt_outside::{Folder, Gate, Sink};
 use vt_walk_decisions::{
-    Drawn, Next, Outlook, PassMachine, Passed, Tally, WalkError, WalkInput, WalkStep, is_finished,
+    Drawn, Next, NextPlan, PassMachine, Passed, Tally, WalkError, WalkInput, WalkStep, is_finished,
     is_written_beside, judge,
 };
 
@@ -71,7 +71,7 @@ pub fn walk_on<
     Ok(took)
 }
 
-// Takes steps until all pictures are finished, and answers how much they took. Each pass is drawn in the step before it is told.
+// Takes steps until all pictures are finished, and answers how much they took. Each pass is drawn in the step before it is journaled.
 fn take_steps<Rt: Threads + Wait + Sync, M: PassMachine + Send, D: Folder, O: Sink, G: Gate + Sync>(
     rt: &Rt,
     alloc: Global,
@@ -147,7 +147,7 @@ fn take_step<Rt: Threads + Wait + Sync, M: PassMachine + Send, D: Folder, O: Sin
     ensures kept { KeepsWalk (moment D.Folder O.Sink folder.old out.old (M.state machine.old) recency.old)
         (moment D.Folder O.Sink folder.new out.new (M.state machine.new) recency.new) }
 {
-    let passed = tell_drawn(buffer, folder, machine, recency, input, number, drawn)?;
+    let passed = journal_drawn(buffer, folder, machine, recency, input, number, drawn)?;
     judge(input, &passed)?;
     go_on(
         rt, alloc, folder, machine, recency, input, number, passed, buffer, out, gate,
@@ -155,7 +155,7 @@ fn take_step<Rt: Threads + Wait + Sync, M: PassMachine + Send, D: Folder, O: Sin
 }
 
 // Tells a pass that was drawn to the journal, by a text that is made in the buffer.
-fn tell_drawn<M: PassMachine, D: Folder>(
+fn journal_drawn<M: PassMachine, D: Folder>(
     buffer: &mut Vec<u8>,
     folder: &mut D,
     machine: &M,
@@ -166,11 +166,11 @@ fn tell_drawn<M: PassMachine, D: Folder>(
 ) -> Result<Passed, WalkError>
     requires input { IsWalkInput input.now }
     requires stands { (b : PassStart) × StandsDrawn (IsDrawnBySome M.PassMachine)
-        (given_of M.drawing input.now b.start.told) number drawn b.start.first
+        (given_of M.drawing input.now b.start.known) number drawn b.start.first
         (λ files. walk_state D.Folder input.now.names.store.now folder.old (b.start.kept ∷ files) b.held b.out_faults)
         (M.state machine.now) recency.now }
-    ensures told { (b : PassStart) → let some = IsDrawnBySome M.PassMachine in
-        let given = given_of M.drawing input.now b.start.told in
+    ensures journaled { (b : PassStart) → let some = IsDrawnBySome M.PassMachine in
+        let given = given_of M.drawing input.now b.start.known in
         let name = input.now.names.store.now in
         let after = walk_state D.Folder name folder.new (b.start.kept ∷ (M.state machine.now).files) b.held
         b.out_faults in
@@ -184,7 +184,7 @@ fn tell_drawn<M: PassMachine, D: Folder>(
     let _ = machine;
     let _ = recency;
     let _ = number;
-    tell_pass(
+    journal_pass(
         buffer,
         folder,
         input.names.journal,
@@ -261,15 +261,15 @@ fn end_step<M: PassMachine, D: Folder, O: Sink>(
         picture,
         loads_nothing,
         lost: _,
-        outlook,
+        next_plan,
         tally,
         reads,
     } = passed;
-    let Outlook {
+    let NextPlan {
         wanted,
         needed: _,
         plan,
-    } = outlook;
+    } = next_plan;
     if !is_finished(input.mode, loads_nothing, &plan) {
         return Ok(WalkStep {
             picture,

@@ -11,14 +11,14 @@ use Rattle.vt_outside.specs.declared.answers.OutsideError.{OutsideError}
 use Rattle.vt_outside.specs.declared.answers.OutsideError.TheVariants as outside
 use Rattle.vt_pages.specs.Shape.{Shape}
 use Rattle.vt_camera.specs.Paths.{PathView}
-use Rattle.vt_tiles.specs.StoreViews.{IsStore, IsStoreIfTold}
+use Rattle.vt_tiles.specs.StoreViews.{IsStore, IsStoreIfKnown}
 use Rattle.vt_walk.specs.JournalText.{Content as Journal}
 use Rattle.vt_command_inputs.specs.Effects.{FolderState, SinkState}
-use Rattle.vt_bilinear.specs.Expectations.{with_files, IsPart, FailsOnly, Puts}
+use Rattle.vt_bilinear.specs.Expectations.{with_files, IsPart, FailsOnly, PutsText}
 use Rattle.vt_command_inputs.proofs.Writing.{part_whole}
 use Rattle.vt_bilinear.specs.Flaws.{IsFirstRefused}
 use Rattle.vt_tiles.specs.Places.{IsTilePlace}
-use Rattle.vt_bilinear.specs.Outcomes.{HoldsReplay, HoldsPart, Stopped, Leaves, IsClosed}
+use Rattle.vt_bilinear.specs.Outcomes.{HoldsReplay, HoldsPart, StoppedReplay, LeavesReplay, IsStoreClosed}
 use Rattle.vt_bilinear.specs.ReplayTypes.error.ReplayError.{ReplayError}
 use Rattle.vt_bilinear.specs.ReplayTypes.error.ReplayError.TheVariants as replay
 use Rattle.vt_command_words.specs.Replay.{ReplayText}
@@ -26,11 +26,11 @@ use Rattle.vt_command_inputs.specs.Lines.{end_line}
 use Rattle.vt_command_inputs.specs.Inputs.{Input, StoreInput, PathInput, PagedStore, JournalInput, PathContent, PagedContent, TextContent, header_places}
 use Rattle.vt_command_inputs.specs.HeldInputs.{Holds}
 use Rattle.vt_command_inputs.specs.Causes.{AreHeld, IsAskedOrNot, AreAskedOrNot}
-use Rattle.vt_command_inputs.specs.Reads.{FileState, OpensStore, Closed, Took, Refused, IsCausedBy, IsAsked}
+use Rattle.vt_command_inputs.specs.Reads.{OpenFileState, OpensStore, Closed, TookInput, Refused, IsRefusalCausedBy, IsInputAsked}
 use Rattle.vt_command_inputs.specs.Refusals.{IsRefusalOf, cause_of}
 use Rattle.vt_command_inputs.specs.CommandSpecs.{FlawedBeside, LeftBySpec, IsRefusalBy, EndsBy}
 use Rattle.vt_walk_commands.specs.commands.Replay.{ReplayOf, under_by, contents_of, expected_journal, replay_inputs, replay_closes, replay_spec}
-use Rattle.vt_walk_commands.specs.commands.Replay.{RefusedBeside, IsAnswer, flaw_of_replay}
+use Rattle.vt_walk_commands.specs.commands.Replay.{RefusedBeside, IsReplayAnswer, flaw_of_replay}
 use Rattle.vt_command_inputs.specs.declared.refusal.Refusal.{Refusal}
 use Rattle.vt_command_inputs.specs.declared.refusal.Refusal.TheVariants.{NoMemory, Usage, Fault, Flawed, TooFewFrames, DoesNotFit}
 use Rattle.vt_command_inputs.proofs.Ending.{refusal_at}
@@ -38,68 +38,68 @@ use Rattle.vt_command_inputs.proofs.Opening.{closed_places}
 use Rattle.vt_command_inputs.proofs.TaskSpecs.{refused_by}
 
 paged_cause : (name : List ℕ) (refusal : Refusal) (before after : FolderState)
-    → IsCausedBy (StoreInput name) (record { before = before; after = after }) refusal
-    → IsCausedBy (PagedStore name) (record { before = before; after = after }) refusal
+    → IsRefusalCausedBy (StoreInput name) (record { before = before; after = after }) refusal
+    → IsRefusalCausedBy (PagedStore name) (record { before = before; after = after }) refusal
 paged_cause name NoMemory before after h = tt
 paged_cause name Usage before after h = h
 paged_cause name (TooFewFrames frames needed) before after h = h
 paged_cause name (DoesNotFit picture wanted room) before after h = h
 paged_cause name Fault before after (inl rose) = inl rose
-paged_cause name Fault before after (inr missing) = inr (record { told = missing.told; none = missing.none })
-paged_cause name (Flawed named flaw) before after h = (h.0, h.1, λ told. let f = h.2 told in record { bytes = f.bytes; there = f.there; is = f.is })
+paged_cause name Fault before after (inr missing) = inr (record { known = missing.known; none = missing.none })
+paged_cause name (Flawed named flaw) before after h = (h.0, h.1, λ known. let f = h.2 known in record { bytes = f.bytes; there = f.there; is = f.is })
 
 paged_held : (name : List ℕ) (shape : Shape) (depth : ℕ) (o : Option (List ℕ)) (files : Option Files) → o ≡ bytes_at files name
     → is_some o ≡ is_some files → ((b : List ℕ) → o ≡ Some b → IsStore b shape depth) → IsSome files
     → Holds files (PagedStore name) (PagedContent shape depth (unwrap_or o []))
-paged_held name shape depth None files same tells is told = absurd (false≢true (tells ∙ told))
-paged_held name shape depth (Some b) files same tells is told = record { bytes = b; there = sym same; is = (is b refl, refl) }
+paged_held name shape depth None files same known_too is known = absurd (false≢true (known_too ∙ known))
+paged_held name shape depth (Some b) files same known_too is known = record { bytes = b; there = sym same; is = (is b refl, refl) }
 
 -- the path was read, and its file closed
 abbrev ReadPath : ReplayText → PathView → FolderState → FolderState → Type 0
-ReadPath words path f0 f1 = Took (PathInput words.path) (PathContent path) (record { before = f0; after = f1 })
+ReadPath words path f0 f1 = TookInput (PathInput words.path) (PathContent path) (record { before = f0; after = f1 })
 
-abbrev OpenedStore : ReplayText → Shape → ℕ → FileState → FolderState → FolderState → Type 0
+abbrev OpenedStore : ReplayText → Shape → ℕ → OpenFileState → FolderState → FolderState → Type 0
 OpenedStore words shape depth file f1 f2 = OpensStore words.store shape depth file (record { before = f1; after = f2 })
 
 -- the path was read, the store was opened, and the journal was read
-pub record HasInputs (words : ReplayText) (path : PathView) (shape : Shape) (depth : ℕ) (file : FileState) (text : List ℕ)
+pub record HasInputs (words : ReplayText) (path : PathView) (shape : Shape) (depth : ℕ) (file : OpenFileState) (text : List ℕ)
     (f0 f1 f2 f3 : FolderState) : Type 0 where
-  pub path_read : Took (PathInput words.path) (PathContent path) (record { before = f0; after = f1 })
+  pub path_read : TookInput (PathInput words.path) (PathContent path) (record { before = f0; after = f1 })
   pub opened : OpensStore words.store shape depth file (record { before = f1; after = f2 })
-  pub text_read : Took (JournalInput words.journal) (TextContent text) (record { before = f2; after = f3 })
+  pub text_read : TookInput (JournalInput words.journal) (TextContent text) (record { before = f2; after = f3 })
 
 -- what the replay is of
-abbrev pub replay_of : PathView → Shape → ℕ → FileState → List ℕ → ReplayOf
+abbrev pub replay_of : PathView → Shape → ℕ → OpenFileState → List ℕ → ReplayOf
 replay_of path shape depth file text = record { path = path; shape = shape; depth = depth; bytes = unwrap_or file.bytes []; text = text }
 
 path_held : (words : ReplayText) (path : PathView) (f0 f1 : FolderState) → ReadPath words path f0 f1
     → IsSome f0.files → AreHeld f0.files (PathInput words.path ∷ []) (PathContent path ∷ [])
-path_held words path f0 f1 p told = (p.held told, tt)
+path_held words path f0 f1 p known = (p.held known, tt)
 
-two_held : (words : ReplayText) (path : PathView) (shape : Shape) (depth : ℕ) (file : FileState) (f0 f1 f2 : FolderState)
+two_held : (words : ReplayText) (path : PathView) (shape : Shape) (depth : ℕ) (file : OpenFileState) (f0 f1 f2 : FolderState)
     → ReadPath words path f0 f1 → OpenedStore words shape depth file f1 f2 → IsSome f0.files
     → AreHeld f0.files (PathInput words.path ∷ PagedStore words.store ∷ []) (PathContent path ∷ PagedContent shape depth (unwrap_or file.bytes []) ∷ [])
-two_held words path shape depth file f0 f1 f2 p o told = (
-  p.held told,
+two_held words path shape depth file f0 f1 f2 p o known = (
+  p.held known,
   (
     subst (λ (files : Option Files). Holds files (PagedStore words.store) (PagedContent shape depth (unwrap_or file.bytes []))) p.files
-        (paged_held words.store shape depth file.bytes f1.files o.bytes o.tells o.is.each (subst IsSome (sym p.files) told)),
+        (paged_held words.store shape depth file.bytes f1.files o.bytes o.known_too o.is.each (subst IsSome (sym p.files) known)),
     tt,
   ),
 )
 
-all_held : (words : ReplayText) (path : PathView) (shape : Shape) (depth : ℕ) (file : FileState) (text : List ℕ) (f0 f1 f2 f3 : FolderState)
+all_held : (words : ReplayText) (path : PathView) (shape : Shape) (depth : ℕ) (file : OpenFileState) (text : List ℕ) (f0 f1 f2 f3 : FolderState)
     → HasInputs words path shape depth file text f0 f1 f2 f3 → IsSome f0.files
     → AreHeld f0.files (replay_inputs words) (contents_of (replay_of path shape depth file text))
-all_held words path shape depth file text f0 f1 f2 f3 h told =
-    let two = two_held words path shape depth file f0 f1 f2 h.path_read h.opened told in
+all_held words path shape depth file text f0 f1 f2 f3 h known =
+    let two = two_held words path shape depth file f0 f1 f2 h.path_read h.opened known in
     let same : f2.files ≡ f0.files = h.opened.files ∙ h.path_read.files in (
       two.0,
       (
         two.1.0,
         (
           subst (λ (files : Option Files). Holds files (JournalInput words.journal) (TextContent text)) same
-              (h.text_read.held (subst IsSome (sym same) told)),
+              (h.text_read.held (subst IsSome (sym same) known)),
           tt,
         ),
       ),
@@ -107,15 +107,15 @@ all_held words path shape depth file text f0 f1 f2 f3 h told =
 
 -- asking
 pub asked_in : (input : Input) (files mid : Option Files) (before after : FolderState) → before.files ≡ files
-    → IsAsked input (record { before = before; after = after }) → IsAskedOrNot files input before.asked after.asked
+    → IsInputAsked input (record { before = before; after = after }) → IsAskedOrNot files input before.asked after.asked
 asked_in input files mid before after same h =
-    inr (subst (λ (f : Option Files). IsAsked input (record {
+    inr (subst (λ (f : Option Files). IsInputAsked input (record {
       before = record { files = f; asked = before.asked; faults = before.faults };
       after = after;
     })) same h)
 
 pub asked_or_not : (input : Input) (files : Option Files) (before after : FolderState) → before.files ≡ files
-    → (after.asked ≡ before.asked) ⊎ IsAsked input (record { before = before; after = after }) → IsAskedOrNot files input before.asked after.asked
+    → (after.asked ≡ before.asked) ⊎ IsInputAsked input (record { before = before; after = after }) → IsAskedOrNot files input before.asked after.asked
 asked_or_not input files before after same (inl none) = inl none
 asked_or_not input files before after same (inr h) = asked_in input files files before after same h
 
@@ -145,7 +145,7 @@ more header tiles None = refl
 more header tiles (Some a) = refl
 
 -- the store's file was closed after it was asked for its header and then for tiles
-store_asked : (words : ReplayText) (shape : Shape) (depth : ℕ) (file : FileState) (files : Option Files) (f1 f2 : FolderState)
+store_asked : (words : ReplayText) (shape : Shape) (depth : ℕ) (file : OpenFileState) (files : Option Files) (f1 f2 : FolderState)
     (mid after : Option Asked) (tiles : List Place) → OpenedStore words shape depth file f1 f2 → f1.files ≡ files → is_some mid ≡ is_some f1.asked
     → All (IsTilePlace shape depth) tiles
     → after ≡ option_map (with_places file.name (option_map (λ (old : List Place). old ++ tiles) file.asked)) mid
@@ -156,7 +156,7 @@ store_asked words shape depth file files f1 f2 mid after tiles o same some are c
     shape,
     depth,
     tiles,
-    subst (λ (told : Option (List ℕ)). IsStoreIfTold told shape depth) (o.bytes ∙ ap (λ (f : Option Files). bytes_at f words.store) same) o.is,
+    subst (λ (known : Option (List ℕ)). IsStoreIfKnown known shape depth) (o.bytes ∙ ap (λ (f : Option Files). bytes_at f words.store) same) o.is,
     are,
     refl,
   ),
@@ -181,7 +181,7 @@ path_refused words refusal f0 f1 out h = (
     inl (record { files = h.files; held = refl }),
     refused_by (replay_spec words) _ refusal (λ rose. rose)
         (refusal_at (replay_inputs words) [] [] (PathInput words.path) (PagedStore words.store ∷ JournalInput words.journal ∷ []) refusal
-        f0 f0 f1 out refl (λ told. tt) refl (omega arith) h.files h.cause),
+        f0 f0 f1 out refl (λ known. tt) refl (omega arith) h.files h.cause),
   ),
 )
 
@@ -204,13 +204,13 @@ store_refused words path refusal f0 f1 f2 out p h = (
   ),
 )
   where
-    tiled : (f2.asked ≡ f1.asked) ⊎ IsAsked (StoreInput words.store) (record { before = f1; after = f2 })
-        → (f2.asked ≡ f1.asked) ⊎ IsAsked (PagedStore words.store) (record { before = f1; after = f2 })
+    tiled : (f2.asked ≡ f1.asked) ⊎ IsInputAsked (StoreInput words.store) (record { before = f1; after = f2 })
+        → (f2.asked ≡ f1.asked) ⊎ IsInputAsked (PagedStore words.store) (record { before = f1; after = f2 })
     tiled (inl none) = inl none
     tiled (inr asks) = inr (asks.0, inl asks.1, asks.2)
 
 -- the journal was refused, and the store's file closed
-pub journal_refused : (words : ReplayText) (path : PathView) (shape : Shape) (depth : ℕ) (file : FileState) (refusal : Refusal)
+pub journal_refused : (words : ReplayText) (path : PathView) (shape : Shape) (depth : ℕ) (file : OpenFileState) (refusal : Refusal)
     (f0 f1 f2 f4 : FolderState) (out : SinkState)
     → ReadPath words path f0 f1 → OpenedStore words shape depth file f1 f2
     → RefusedBeside words.journal refusal file (record { before = f2; after = f4 })
@@ -220,8 +220,8 @@ journal_refused words path shape depth file refusal f0 f1 f2 f4 out p o h =
     ended h.read.after
     (subst (λ (s : FolderState). Refused (JournalInput words.journal) refusal (record { before = s; after = h.read.after })) h.begins h.refused) h.closed
   where
-    cause_later : (r : Refusal) (f3 : FolderState) → f3.faults ≤ f4.faults → IsCausedBy (JournalInput words.journal) (record { before = f2; after = f3 }) r
-        → IsCausedBy (JournalInput words.journal) (record { before = f2; after = f4 }) r
+    cause_later : (r : Refusal) (f3 : FolderState) → f3.faults ≤ f4.faults → IsRefusalCausedBy (JournalInput words.journal) (record { before = f2; after = f3 }) r
+        → IsRefusalCausedBy (JournalInput words.journal) (record { before = f2; after = f4 }) r
     cause_later NoMemory f3 le c = tt
     cause_later Usage f3 le c = c
     cause_later (TooFewFrames frames needed) f3 le c = c
@@ -248,7 +248,7 @@ journal_refused words path shape depth file refusal f0 f1 f2 f4 out p o h =
                 store_asked words shape depth file f0.files f1 f2 f3.asked f4.asked [] o p.files
                     (some_after f0.files (JournalInput words.journal) f2.asked f3.asked journal
                     ∙ ap is_some o.no_places) (λ k d less. absurd (omega (arith, less)))
-                    (c.asked ∙ ap (λ (told : Option (List Place)). option_map (with_places file.name told) f3.asked) (no_tiles file.asked)),
+                    (c.asked ∙ ap (λ (known : Option (List Place)). option_map (with_places file.name known) f3.asked) (no_tiles file.asked)),
                 refl,
               ),
             ),
@@ -265,8 +265,8 @@ journal_refused words path shape depth file refusal f0 f1 f2 f4 out p o h =
         )
 
 -- what was asked where the journal was replayed
-asks_all : (words : ReplayText) (path : PathView) (shape : Shape) (depth : ℕ) (file : FileState) (text : List ℕ) (f0 f1 f2 f3 f4 : FolderState)
-    → HasInputs words path shape depth file text f0 f1 f2 f3 → IsClosed shape depth file.name file.asked f3.asked f4.asked
+asks_all : (words : ReplayText) (path : PathView) (shape : Shape) (depth : ℕ) (file : OpenFileState) (text : List ℕ) (f0 f1 f2 f3 f4 : FolderState)
+    → HasInputs words path shape depth file text f0 f1 f2 f3 → IsStoreClosed shape depth file.name file.asked f3.asked f4.asked
     → AreAskedOrNot f0.files (replay_closes words) f0.asked f4.asked
 asks_all words path shape depth file text f0 f1 f2 f3 f4 h c =
     let same : f2.files ≡ f0.files = h.opened.files ∙ h.path_read.files in
@@ -285,43 +285,43 @@ asks_all words path shape depth file text f0 f1 f2 f3 f4 h c =
       ),
     )
 
-files_kept : (words : ReplayText) (path : PathView) (shape : Shape) (depth : ℕ) (file : FileState) (text : List ℕ) (f0 f1 f2 f3 : FolderState)
+files_kept : (words : ReplayText) (path : PathView) (shape : Shape) (depth : ℕ) (file : OpenFileState) (text : List ℕ) (f0 f1 f2 f3 : FolderState)
     → HasInputs words path shape depth file text f0 f1 f2 f3 → f3.files ≡ f0.files
 files_kept words path shape depth file text f0 f1 f2 f3 h = h.text_read.files ∙ h.opened.files ∙ h.path_read.files
 
-told_bytes : (o : Option (List ℕ)) (files : Option Files) → is_some o ≡ is_some files → IsSome files → o ≡ Some (unwrap_or o [])
-told_bytes None files tells told = absurd (false≢true (tells ∙ told))
-told_bytes (Some b) files tells told = refl
+bytes_if_known : (o : Option (List ℕ)) (files : Option Files) → is_some o ≡ is_some files → IsSome files → o ≡ Some (unwrap_or o [])
+bytes_if_known None files known_too known = absurd (false≢true (known_too ∙ known))
+bytes_if_known (Some b) files known_too known = refl
 
 -- the store tells its bytes where the folder tells
-bytes_told : (words : ReplayText) (path : PathView) (shape : Shape) (depth : ℕ) (file : FileState) (text : List ℕ) (f0 f1 f2 f3 : FolderState)
+bytes_known : (words : ReplayText) (path : PathView) (shape : Shape) (depth : ℕ) (file : OpenFileState) (text : List ℕ) (f0 f1 f2 f3 : FolderState)
     → HasInputs words path shape depth file text f0 f1 f2 f3 → IsSome f0.files → file.bytes ≡ Some (unwrap_or file.bytes [])
-bytes_told words path shape depth file text f0 f1 f2 f3 h told =
-    told_bytes file.bytes f1.files h.opened.tells (subst IsSome (sym h.path_read.files) told)
+bytes_known words path shape depth file text f0 f1 f2 f3 h known =
+    bytes_if_known file.bytes f1.files h.opened.known_too (subst IsSome (sym h.path_read.files) known)
 
 -- the pictures of the journal are there
-replayed_files : (words : ReplayText) (path : PathView) (shape : Shape) (depth : ℕ) (file : FileState) (text : List ℕ)
+replayed_files : (words : ReplayText) (path : PathView) (shape : Shape) (depth : ℕ) (file : OpenFileState) (text : List ℕ)
     (f0 f1 f2 f3 f4 : FolderState) (journal : Journal) → HasInputs words path shape depth file text f0 f1 f2 f3
     → HoldsReplay (under_by words.filter) shape depth file.bytes path words.prefix journal f3.files f4.files → IsSome f0.files
     → f4.files ≡ option_map (with_files (expected_journal words (replay_of path shape depth file text) journal).files) f0.files
-replayed_files words path shape depth file text f0 f1 f2 f3 f4 journal h holds told =
+replayed_files words path shape depth file text f0 f1 f2 f3 f4 journal h holds known =
     let expected = (expected_journal words (replay_of path shape depth file text) journal).files in
-    holds (unwrap_or file.bytes []) (bytes_told words path shape depth file text f0 f1 f2 f3 h told)
+    holds (unwrap_or file.bytes []) (bytes_known words path shape depth file text f0 f1 f2 f3 h known)
     ∙ ap (option_map (with_files expected)) (files_kept words path shape depth file text f0 f1 f2 f3 h)
 
-part_files : (words : ReplayText) (path : PathView) (shape : Shape) (depth : ℕ) (file : FileState) (text : List ℕ)
+part_files : (words : ReplayText) (path : PathView) (shape : Shape) (depth : ℕ) (file : OpenFileState) (text : List ℕ)
     (f0 f1 f2 f3 f4 : FolderState) (journal : Journal) → HasInputs words path shape depth file text f0 f1 f2 f3
     → HoldsPart (under_by words.filter) shape depth file.bytes path words.prefix journal f3.files f4.files → IsSome f0.files
     → IsPart (expected_journal words (replay_of path shape depth file text) journal).files f0.files f4.files
-part_files words path shape depth file text f0 f1 f2 f3 f4 journal h holds told =
+part_files words path shape depth file text f0 f1 f2 f3 f4 journal h holds known =
     let expected = (expected_journal words (replay_of path shape depth file text) journal).files in
     subst (λ (files : Option Files). IsPart expected files f4.files) (files_kept words path shape depth file text f0 f1 f2 f3 h)
-    (holds (unwrap_or file.bytes []) (bytes_told words path shape depth file text f0 f1 f2 f3 h told))
+    (holds (unwrap_or file.bytes []) (bytes_known words path shape depth file text f0 f1 f2 f3 h known))
 
 -- what is left where the replay was stopped
-left_stopped : (words : ReplayText) (path : PathView) (shape : Shape) (depth : ℕ) (file : FileState) (text : List ℕ)
+left_stopped : (words : ReplayText) (path : PathView) (shape : Shape) (depth : ℕ) (file : OpenFileState) (text : List ℕ)
     (f0 f1 f2 f3 f4 : FolderState) (out : SinkState) → HasInputs words path shape depth file text f0 f1 f2 f3
-    → Stopped (under_by words.filter) shape depth file.bytes path text words.prefix f3.files f4.files
+    → StoppedReplay (under_by words.filter) shape depth file.bytes path text words.prefix f3.files f4.files
     → LeftBySpec (replay_spec words) (record { folder = record { before = f0; after = f4 }; out = record { before = out; after = out } })
 left_stopped words path shape depth file text f0 f1 f2 f3 f4 out h (inl same) =
     inl (record { files = same ∙ files_kept words path shape depth file text f0 f1 f2 f3 h; held = refl })
@@ -345,10 +345,10 @@ rise : (a b c d e n : ℕ) → a ≤ b → b ≤ c → c ≤ d → Rose (added d
 rise a b c d e n p q r rose = omega (arith, p, q, r, rose)
 
 -- the answer of a replay that was refused
-replay_refused : (words : ReplayText) (path : PathView) (shape : Shape) (depth : ℕ) (file : FileState) (text : List ℕ)
+replay_refused : (words : ReplayText) (path : PathView) (shape : Shape) (depth : ℕ) (file : OpenFileState) (text : List ℕ)
     (f0 f1 f2 f3 f4 : FolderState) (out : SinkState) (error : ReplayError) (refusal : Refusal)
-    → HasInputs words path shape depth file text f0 f1 f2 f3 → IsClosed shape depth file.name file.asked f3.asked f4.asked
-    → Leaves (under_by words.filter) shape depth file.bytes path text words.prefix f3.files f4.files (Err error)
+    → HasInputs words path shape depth file text f0 f1 f2 f3 → IsStoreClosed shape depth file.name file.asked f3.asked f4.asked
+    → LeavesReplay (under_by words.filter) shape depth file.bytes path text words.prefix f3.files f4.files (Err error)
     → (error ≡ replay.Failed → Rose (added f3.faults file.faults) f4.faults)
     → IsRefusalOf words.journal (flaw_of_replay error) refusal
     → EndsBy {T = Unit {0}} (replay_spec words)
@@ -390,11 +390,11 @@ replay_refused words path shape depth file text f0 f1 f2 f3 f4 out replay.NoMemo
     )
 
 -- the pictures are there, and what was put of the end line
-line_refused : (words : ReplayText) (path : PathView) (shape : Shape) (depth : ℕ) (file : FileState) (text : List ℕ)
+line_refused : (words : ReplayText) (path : PathView) (shape : Shape) (depth : ℕ) (file : OpenFileState) (text : List ℕ)
     (f0 f1 f2 f3 f4 : FolderState) (out shown : SinkState) (count pictures : ℕ) (error : OutsideError)
-    → HasInputs words path shape depth file text f0 f1 f2 f3 → IsClosed shape depth file.name file.asked f3.asked f4.asked
-    → Leaves (under_by words.filter) shape depth file.bytes path text words.prefix f3.files f4.files (Ok count) → pictures ≡ count
-    → Puts {T = Unit {0}} (end_line pictures) (record { before = out; after = shown }) (Err error)
+    → HasInputs words path shape depth file text f0 f1 f2 f3 → IsStoreClosed shape depth file.name file.asked f3.asked f4.asked
+    → LeavesReplay (under_by words.filter) shape depth file.bytes path text words.prefix f3.files f4.files (Ok count) → pictures ≡ count
+    → PutsText {T = Unit {0}} (end_line pictures) (record { before = out; after = shown }) (Err error)
     → EndsBy {T = Unit {0}} (replay_spec words)
     (record { folder = record { before = f0; after = f4 }; out = record { before = out; after = shown } }) (Err (cause_of error))
 line_refused words path shape depth file text f0 f1 f2 f3 f4 out shown count pictures error h c left same put =
@@ -411,7 +411,7 @@ line_refused words path shape depth file text f0 f1 f2 f3 f4 out shown count pic
             are = refl;
             journal = left.0;
             has = left.1;
-            files = λ told. part_whole (expected_journal words of left.0).files f0.files f4.files (all told);
+            files = λ known. part_whole (expected_journal words of left.0).files f0.files f4.files (all known);
             out = inr (
               all,
               (
@@ -441,12 +441,12 @@ same_first a b line same first =
     (subst (λ (p : PathView). IsFirstRefused b.shape p.height (length p.cameras) a.text line) path
     (subst (λ (t : List ℕ). IsFirstRefused b.shape b.path.height (length b.path.cameras) t line) text first))
 
-replay_done : (words : ReplayText) (path : PathView) (shape : Shape) (depth : ℕ) (file : FileState) (text : List ℕ)
+replay_done : (words : ReplayText) (path : PathView) (shape : Shape) (depth : ℕ) (file : OpenFileState) (text : List ℕ)
     (f0 f1 f2 f3 f4 : FolderState) (out shown : SinkState) (count pictures : ℕ)
-    → HasInputs words path shape depth file text f0 f1 f2 f3 → IsClosed shape depth file.name file.asked f3.asked f4.asked
-    → Leaves (under_by words.filter) shape depth file.bytes path text words.prefix f3.files f4.files (Ok count)
+    → HasInputs words path shape depth file text f0 f1 f2 f3 → IsStoreClosed shape depth file.name file.asked f3.asked f4.asked
+    → LeavesReplay (under_by words.filter) shape depth file.bytes path text words.prefix f3.files f4.files (Ok count)
     → ((line : ℕ) → IsFirstRefused shape path.height (length path.cameras) text line → ⊥) → pictures ≡ count
-    → Puts {T = Unit {0}} (end_line pictures) (record { before = out; after = shown }) (Ok tt)
+    → PutsText {T = Unit {0}} (end_line pictures) (record { before = out; after = shown }) (Ok tt)
     → EndsBy {T = Unit {0}} (replay_spec words)
     (record { folder = record { before = f0; after = f4 }; out = record { before = out; after = shown } }) (Ok tt)
 replay_done words path shape depth file text f0 f1 f2 f3 f4 out shown count pictures h c left free same put =
@@ -469,39 +469,39 @@ replay_done words path shape depth file text f0 f1 f2 f3 f4 out shown count pict
     )
 
 -- the same by what the replay answered
-pub answer_refused : (words : ReplayText) (path : PathView) (shape : Shape) (depth : ℕ) (file : FileState) (text : List ℕ)
+pub answer_refused : (words : ReplayText) (path : PathView) (shape : Shape) (depth : ℕ) (file : OpenFileState) (text : List ℕ)
     (f0 f1 f2 f3 f4 : FolderState) (out : SinkState) (played : Result ℕ ReplayError) (refusal : Refusal)
-    → HasInputs words path shape depth file text f0 f1 f2 f3 → IsClosed shape depth file.name file.asked f3.asked f4.asked
-    → Leaves (under_by words.filter) shape depth file.bytes path text words.prefix f3.files f4.files played
+    → HasInputs words path shape depth file text f0 f1 f2 f3 → IsStoreClosed shape depth file.name file.asked f3.asked f4.asked
+    → LeavesReplay (under_by words.filter) shape depth file.bytes path text words.prefix f3.files f4.files played
     → (played ≡ Err replay.Failed → Rose (added f3.faults file.faults) f4.faults)
-    → IsAnswer words.journal played (Err refusal)
+    → IsReplayAnswer words.journal played (Err refusal)
     → EndsBy {T = Unit {0}} (replay_spec words)
     (record { folder = record { before = f0; after = f4 }; out = record { before = out; after = out } }) (Err refusal)
 answer_refused words path shape depth file text f0 f1 f2 f3 f4 out (Ok count) refusal h c left failed is = absurd is
 answer_refused words path shape depth file text f0 f1 f2 f3 f4 out (Err error) refusal h c left failed is =
     replay_refused words path shape depth file text f0 f1 f2 f3 f4 out error refusal h c left (λ e. failed (ap Err e)) is
 
-pub answer_untold : (words : ReplayText) (path : PathView) (shape : Shape) (depth : ℕ) (file : FileState) (text : List ℕ)
+pub answer_unknown : (words : ReplayText) (path : PathView) (shape : Shape) (depth : ℕ) (file : OpenFileState) (text : List ℕ)
     (f0 f1 f2 f3 f4 : FolderState) (out shown : SinkState) (played : Result ℕ ReplayError) (pictures : ℕ) (error : OutsideError)
-    → HasInputs words path shape depth file text f0 f1 f2 f3 → IsClosed shape depth file.name file.asked f3.asked f4.asked
-    → Leaves (under_by words.filter) shape depth file.bytes path text words.prefix f3.files f4.files played → IsAnswer words.journal played (Ok pictures)
-    → Puts {T = Unit {0}} (end_line pictures) (record { before = out; after = shown }) (Err error)
+    → HasInputs words path shape depth file text f0 f1 f2 f3 → IsStoreClosed shape depth file.name file.asked f3.asked f4.asked
+    → LeavesReplay (under_by words.filter) shape depth file.bytes path text words.prefix f3.files f4.files played → IsReplayAnswer words.journal played (Ok pictures)
+    → PutsText {T = Unit {0}} (end_line pictures) (record { before = out; after = shown }) (Err error)
     → EndsBy {T = Unit {0}} (replay_spec words)
     (record { folder = record { before = f0; after = f4 }; out = record { before = out; after = shown } }) (Err (cause_of error))
-answer_untold words path shape depth file text f0 f1 f2 f3 f4 out shown (Ok count) pictures error h c left is put =
+answer_unknown words path shape depth file text f0 f1 f2 f3 f4 out shown (Ok count) pictures error h c left is put =
     line_refused words path shape depth file text f0 f1 f2 f3 f4 out shown count pictures error h c left is put
-answer_untold words path shape depth file text f0 f1 f2 f3 f4 out shown (Err e) pictures error h c left is put = absurd is
+answer_unknown words path shape depth file text f0 f1 f2 f3 f4 out shown (Err e) pictures error h c left is put = absurd is
 
-pub answer_told : (words : ReplayText) (path : PathView) (shape : Shape) (depth : ℕ) (file : FileState) (text : List ℕ)
+pub answer_known : (words : ReplayText) (path : PathView) (shape : Shape) (depth : ℕ) (file : OpenFileState) (text : List ℕ)
     (f0 f1 f2 f3 f4 : FolderState) (out shown : SinkState) (played : Result ℕ ReplayError) (pictures : ℕ)
-    → HasInputs words path shape depth file text f0 f1 f2 f3 → IsClosed shape depth file.name file.asked f3.asked f4.asked
-    → Leaves (under_by words.filter) shape depth file.bytes path text words.prefix f3.files f4.files played
+    → HasInputs words path shape depth file text f0 f1 f2 f3 → IsStoreClosed shape depth file.name file.asked f3.asked f4.asked
+    → LeavesReplay (under_by words.filter) shape depth file.bytes path text words.prefix f3.files f4.files played
     → ((line : ℕ) → IsFirstRefused shape path.height (length path.cameras) text line
-    → (played ≡ Err (replay.BadJournal line)) ⊎ (played ≡ Err replay.NoMemory)) → IsAnswer words.journal played (Ok pictures)
-    → Puts {T = Unit {0}} (end_line pictures) (record { before = out; after = shown }) (Ok tt)
+    → (played ≡ Err (replay.BadJournal line)) ⊎ (played ≡ Err replay.NoMemory)) → IsReplayAnswer words.journal played (Ok pictures)
+    → PutsText {T = Unit {0}} (end_line pictures) (record { before = out; after = shown }) (Ok tt)
     → EndsBy {T = Unit {0}} (replay_spec words)
     (record { folder = record { before = f0; after = f4 }; out = record { before = out; after = shown } }) (Ok tt)
-answer_told words path shape depth file text f0 f1 f2 f3 f4 out shown (Ok count) pictures h c left refused is put =
+answer_known words path shape depth file text f0 f1 f2 f3 f4 out shown (Ok count) pictures h c left refused is put =
     replay_done words path shape depth file text f0 f1 f2 f3 f4 out shown count pictures h c left
     (λ line first. elim (refused line first) [ inl wrong ↦ absurd (cc) | inr wrong ↦ absurd (cc) ]) is put
-answer_told words path shape depth file text f0 f1 f2 f3 f4 out shown (Err e) pictures h c left refused is put = absurd is
+answer_known words path shape depth file text f0 f1 f2 f3 f4 out shown (Err e) pictures h c left refused is put = absurd is

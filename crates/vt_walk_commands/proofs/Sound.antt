@@ -1,8 +1,8 @@
 -- What is known of the specification of the commands that walk or replay.
 use Rattle.std.proofs.Common.{◌≡◌, List, [], ◌∷◌, Option, refl, sym, ap, subst, ◌∙◌, inl, arith}
 use Rattle.vt_outside.specs.Files.{Files, Asked}
-use Rattle.vt_command_inputs.specs.Effects.{CallEffect, FolderState, IsIdle}
-use Rattle.vt_command_inputs.specs.Inputs.{Input, Content}
+use Rattle.vt_command_inputs.specs.Effects.{CallEffect, FolderState, HasNoEffect}
+use Rattle.vt_command_inputs.specs.Inputs.{Input, InputContent}
 use Rattle.vt_command_inputs.specs.Causes.{AreAskedOrNot}
 use Rattle.vt_command_inputs.specs.CommandSpecs.{CommandSpec, Conflict, FlawedBeside, ManyTexels, FewFrames, LargePicture, conflict_status}
 use Rattle.vt_walk_commands.specs.Machines.{MachineKind}
@@ -15,10 +15,10 @@ use Rattle.vt_command_words.specs.Trial.{TrialText}
 
 -- whatever stands in the way of some contents has one status, and nothing is asked where all is as before
 pub record AreSound (spec : CommandSpec) : Type 0 where
-  pub one : (contents : List Content) (a b : Conflict) → spec.conflicts contents a → spec.conflicts contents b → conflict_status a ≡ conflict_status b
-  pub idle : (c : CallEffect) → IsIdle c → spec.asks c
+  pub one : (contents : List InputContent) (a b : Conflict) → spec.conflicts contents a → spec.conflicts contents b → conflict_status a ≡ conflict_status b
+  pub idle : (c : CallEffect) → HasNoEffect c → spec.asks c
 
-one_line : (words : ReplayText) (contents : List Content) (a b : Conflict) → HasBadLine words contents a → HasBadLine words contents b
+one_line : (words : ReplayText) (contents : List InputContent) (a b : Conflict) → HasBadLine words contents a → HasBadLine words contents b
     → conflict_status a ≡ conflict_status b
 one_line words contents a b x y = ap conflict_status x.is ∙ sym (ap conflict_status y.is)
 
@@ -58,7 +58,7 @@ same_of a b same =
     let depth : a.depth ≡ b.depth = cc in
     λ i. record { path = path i; shape = shape i; depth = depth i }
 
-walk_one : (m : MachineKind) (words : WalkText) (contents : List Content) (a b : Conflict) → ConflictsInWalk m words contents a → ConflictsInWalk m words contents b
+walk_one : (m : MachineKind) (words : WalkText) (contents : List InputContent) (a b : Conflict) → ConflictsInWalk m words contents a → ConflictsInWalk m words contents b
     → conflict_status a ≡ conflict_status b
 walk_one m words contents a b x y =
     one_stands m words x.of a b x.stands (subst (λ (o : WalkOf). StandsInWay m words o b) (same_of y.of x.of (sym y.are ∙ x.are)) y.stands)
@@ -72,7 +72,7 @@ walk_sound m words = record {
 }
 
 -- only a picture that does not fit may stand in the way of a trial
-trial_one : (words : TrialText) (contents : List Content) (a b : Conflict) → ConflictsInTrial words contents a → ConflictsInTrial words contents b
+trial_one : (words : TrialText) (contents : List InputContent) (a b : Conflict) → ConflictsInTrial words contents a → ConflictsInTrial words contents b
     → conflict_status a ≡ conflict_status b
 trial_one words contents (LargePicture picture wanted room) (LargePicture other more less) x y = refl
 trial_one words contents (FlawedBeside name flaw) b x y = absurd x

@@ -16,7 +16,7 @@ use Rattle.vt_mip.specs.Chains.{ChainView, chain_texel}
 use Rattle.vt_pages.specs.Shape.{Shape}
 use Rattle.vt_tiles.specs.Pages.{refusal_of}
 use Rattle.vt_store_commands.specs.ChainStores.{chain_store}
-use Rattle.vt_tiles.specs.StoreViews.{IsStore, IsStoreIfTold}
+use Rattle.vt_tiles.specs.StoreViews.{IsStore, IsStoreIfKnown}
 use Rattle.vt_tiles.proofs.Stored.{stores_open}
 use Rattle.vt_walk.specs.Requests as Requests
 use Rattle.vt_walk.specs.declared.walk_steps.Walked.{Walked}
@@ -27,7 +27,7 @@ use Rattle.vt_walk.proofs.Rounds.{each_fits}
 use Rattle.vt_walk.proofs.Wholeness.{fits_or_not}
 use Rattle.vt_command_words.specs.Trial.{TrialText}
 use Rattle.vt_command_inputs.specs.Effects.{FolderState, SinkState, SinkEffect, IsWithoutEffect}
-use Rattle.vt_bilinear.specs.Expectations.{FailsOnly, Puts}
+use Rattle.vt_bilinear.specs.Expectations.{FailsOnly, PutsText}
 use Rattle.vt_command_inputs.specs.CommandSpecs.{Conflict, FlawedBeside, ManyTexels, FewFrames, LargePicture, IsRefusalBy, EndsBy}
 use Rattle.vt_command_inputs.specs.Refusals.{cause_of}
 use Rattle.vt_walk_commands.specs.commands.Trial.{trial_shape, trial_path, trial_settings, trial_setup, trial_line, trial_spec, IsTrial, IsFirstUnfit, ConflictsInTrial, IsWalkRefusal, IsTrialRefusal, Compares, TriesOut, beside}
@@ -39,11 +39,11 @@ use Rattle.vt_command_inputs.specs.declared.refusal.Refusal.TheVariants.{NoMemor
 pub fresh_open : (name : List ℕ) (asked : Option Asked) (file : Requests.FileState) → file.asked ≡ option_map (λ _. []) asked
     → OnSome asked (file.name ≡ name) → AreOpen 1 name asked (file ∷ [])
 fresh_open name None file is named = record {
-  tell = ap (λ (o : Option (List Place)). is_some o ∷ []) is;
+  all_known = ap (λ (o : Option (List Place)). is_some o ∷ []) is;
   named = λ some. absurd (false≢true some);
 }
 fresh_open name (Some a) file is named = record {
-  tell = ap (λ (o : Option (List Place)). is_some o ∷ []) is;
+  all_known = ap (λ (o : Option (List Place)). is_some o ∷ []) is;
   named = λ some. ap (λ (n : List ℕ). n ∷ []) named;
 }
 
@@ -76,13 +76,13 @@ free words walked t (LargePicture picture wanted room) h =
 
 -- the line was put
 pub tried : (words : TrialText) (walked : Walked) (differ : ℕ) (folder : FolderState) (out : SinkEffect) → IsTrial words.number walked → differ ≡ 0
-    → Puts {T = Unit {0}} (trial_line words.number walked differ) out (Ok tt) → EndsBy {T = Unit {0}} (trial_spec words) (beside folder out) (Ok tt)
+    → PutsText {T = Unit {0}} (trial_line words.number walked differ) out (Ok tt) → EndsBy {T = Unit {0}} (trial_spec words) (beside folder out) (Ok tt)
 tried words walked differ folder out t none put = (
   refl,
   record {
     contents = [];
     count = refl;
-    held = λ told. tt;
+    held = λ known. tt;
     free = free words walked t;
     done = record {
       walked = walked;
@@ -95,7 +95,7 @@ tried words walked differ folder out t none put = (
 
 -- a prefix of it was
 pub tried_in_part : (words : TrialText) (walked : Walked) (differ : ℕ) (folder : FolderState) (out : SinkEffect) (error : OutsideError)
-    → IsTrial words.number walked → differ ≡ 0 → Puts {T = Unit {0}} (trial_line words.number walked differ) out (Err error)
+    → IsTrial words.number walked → differ ≡ 0 → PutsText {T = Unit {0}} (trial_line words.number walked differ) out (Err error)
     → EndsBy {T = Unit {0}} (trial_spec words) (beside folder out) (Err (cause_of error))
 tried_in_part words walked differ folder out error t none put = (
   refl,
@@ -103,7 +103,7 @@ tried_in_part words walked differ folder out error t none put = (
     inr (record {
       contents = [];
       count = refl;
-      held = λ told. tt;
+      held = λ known. tt;
       stopped = record {
         walked = walked;
         is = t;
@@ -138,7 +138,7 @@ untried words folder out (DoesNotFit picture wanted room) path is why = (
     record {
       contents = [];
       count = refl;
-      held = λ told. tt;
+      held = λ known. tt;
       conflicts = record { path = path; is = is; first = why };
       stands = untouched folder out;
     },
@@ -168,10 +168,10 @@ refused words folder out refusal (inr why) = untried words folder out refusal wh
 
 -- the name holds the store of a chain of one-byte samples
 pub store_written : (name : List ℕ) (chain : ChainView) (shape : Shape) (o : Option (List ℕ)) (before after : Option Files) → o ≡ bytes_at after name
-    → after ≡ option_map (with_bytes name (chain_store chain shape)) before → chain.base.depth ≡ 1 → refusal_of shape ≡ None → IsStoreIfTold o shape 1
+    → after ≡ option_map (with_bytes name (chain_store chain shape)) before → chain.base.depth ≡ 1 → refusal_of shape ≡ None → IsStoreIfKnown o shape 1
 store_written name chain shape o before after is held depth accepted = record {
-  each = λ bytes told.
-      subst (λ (b : List ℕ). IsStore b shape 1) (sym (bytes_written name (chain_store chain shape) bytes o before after is held told))
+  each = λ bytes known.
+      subst (λ (b : List ℕ). IsStore b shape 1) (sym (bytes_written name (chain_store chain shape) bytes o before after is held known))
       (subst (λ d. IsStore (chain_store chain shape) shape d) depth (stores_open shape chain.base.depth (chain_texel chain) (inl depth) accepted));
 }
 

@@ -20,7 +20,7 @@ use Rattle.vt_walk.specs.WalkDecisionsTypes.error.WalkError.TheVariants as walks
 use Rattle.vt_walk.specs.Walks.{WalkGiven, given_by, mode_of}
 use Rattle.vt_walk.specs.Folders.{IsApart}
 use Rattle.vt_walk.specs.States.{WalkState, places_of}
-use Rattle.vt_walk.specs.Reads.{OnTold}
+use Rattle.vt_walk.specs.Reads.{OnKnown}
 use Rattle.vt_walk.specs.Standing.{Finished}
 use Rattle.vt_walk.specs.Causes.{IsCausedBy}
 use Rattle.vt_walk.specs.WalkSteps.{LeftByRefusal as WalkLeftBy}
@@ -36,10 +36,10 @@ use Rattle.vt_walk_commands.specs.Machines.{MachineKind}
 use Rattle.vt_command_inputs.specs.Inputs.{PathInput, StoreInput, PathContent, StoreContent, header_places}
 use Rattle.vt_command_inputs.specs.HeldInputs.{Holds}
 use Rattle.vt_command_inputs.specs.Causes.{AreHeld, AsksSome}
-use Rattle.vt_command_inputs.specs.Reads.{FileState, OpensStore, Closed, Took, Refused}
+use Rattle.vt_command_inputs.specs.Reads.{OpenFileState, OpensStore, Closed, TookInput, Refused}
 use Rattle.vt_command_inputs.specs.Tasks.{HasRisen}
 use Rattle.vt_command_inputs.specs.CommandSpecs.{Conflict, FlawedBeside, ManyTexels, FewFrames, LargePicture, IsRefusalBy, EndsBy}
-use Rattle.vt_walk_commands.specs.commands.Walk.{WalkOf, contents_of, settings_of, walk_names, walk_given, walk_first, walk_last, HasWalked, HasLeft, frame_texels, walk_pinned, StandsInWay, walk_inputs, WalkFailed, WalkAsks, IsAnswer, walk_spec, refusal_of_walk}
+use Rattle.vt_walk_commands.specs.commands.Walk.{WalkOf, contents_of, settings_of, walk_names, walk_given, walk_first, walk_last, HasWalked, HasLeft, frame_texels, walk_pinned, StandsInWay, walk_inputs, WalkFailed, WalkAsks, IsWalkAnswer, walk_spec, refusal_of_walk}
 use Rattle.vt_command_inputs.specs.declared.refusal.Refusal.{Refusal}
 use Rattle.vt_command_inputs.specs.declared.refusal.Refusal.TheVariants.{Usage}
 use Rattle.vt_command_inputs.proofs.Ending.{refusal_at}
@@ -69,13 +69,13 @@ path_refused m words refusal f0 f1 out h =
         inl (record { files = h.files; held = refl }),
         refused_by (walk_spec m words) (over f0 f1 out out) refusal (risen_before m words (over f0 f1 out out) asks)
             (refusal_at (walk_inputs words) [] [] (PathInput words.path) (StoreInput words.store ∷ []) refusal
-            f0 f0 f1 out refl (λ told. tt) refl (omega arith) h.files h.cause),
+            f0 f0 f1 out refl (λ known. tt) refl (omega arith) h.files h.cause),
       ),
     )
 
 -- the path was read
 abbrev pub ReadPath : WalkText → PathView → FolderState → FolderState → Type 0
-ReadPath words path f0 f1 = Took (PathInput words.path) (PathContent path) (record { before = f0; after = f1 })
+ReadPath words path f0 f1 = TookInput (PathInput words.path) (PathContent path) (record { before = f0; after = f1 })
 
 -- the store was refused
 pub store_refused : (m : MachineKind) (words : WalkText) (path : PathView) (refusal : Refusal) (f0 f1 f2 : FolderState) (out : SinkState)
@@ -92,26 +92,26 @@ store_refused m words path refusal f0 f1 f2 out p h =
         inl (record { files = h.files ∙ p.files; held = refl }),
         refused_by (walk_spec m words) (over f0 f2 out out) refusal (risen_before m words (over f0 f2 out out) asks)
             (refusal_at (walk_inputs words) (PathInput words.path ∷ []) (PathContent path ∷ []) (StoreInput words.store) [] refusal
-            f0 f1 f2 out refl (λ told. (p.held told, tt)) p.files p.faults h.files h.cause),
+            f0 f1 f2 out refl (λ known. (p.held known, tt)) p.files p.faults h.files h.cause),
       ),
     )
 
 -- the path was read, and the store was opened
-pub record HasInputs (words : WalkText) (of : WalkOf) (file : FileState) (f0 f1 f2 : FolderState) : Type 0 where
-  pub path_read : Took (PathInput words.path) (PathContent of.path) (record { before = f0; after = f1 })
+pub record HasInputs (words : WalkText) (of : WalkOf) (file : OpenFileState) (f0 f1 f2 : FolderState) : Type 0 where
+  pub path_read : TookInput (PathInput words.path) (PathContent of.path) (record { before = f0; after = f1 })
   pub opened : OpensStore words.store of.shape of.depth file (record { before = f1; after = f2 })
 
-both_held : (words : WalkText) (of : WalkOf) (file : FileState) (f0 f1 f2 : FolderState) → HasInputs words of file f0 f1 f2
+both_held : (words : WalkText) (of : WalkOf) (file : OpenFileState) (f0 f1 f2 : FolderState) → HasInputs words of file f0 f1 f2
     → IsSome f0.files → AreHeld f0.files (walk_inputs words) (contents_of of)
-both_held words of file f0 f1 f2 h told =
-    let there = store_there words.store of.shape of.depth file (record { before = f1; after = f2 }) h.opened (subst IsSome (sym h.path_read.files) told) in
+both_held words of file f0 f1 f2 h known =
+    let there = store_there words.store of.shape of.depth file (record { before = f1; after = f2 }) h.opened (subst IsSome (sym h.path_read.files) known) in
     let holds : Holds f1.files (StoreInput words.store) (StoreContent of.shape of.depth) = record { bytes = there.0; there = there.1; is = there.2 } in (
-      h.path_read.held told,
+      h.path_read.held known,
       (subst (λ (files : Option Files). Holds files (StoreInput words.store) (StoreContent of.shape of.depth)) h.path_read.files holds, tt),
     )
 
 -- the frames have too many texels, and the store was closed
-pub many_refused : (m : MachineKind) (words : WalkText) (of : WalkOf) (file : FileState) (f0 f1 f2 f3 : FolderState) (out : SinkState)
+pub many_refused : (m : MachineKind) (words : WalkText) (of : WalkOf) (file : OpenFileState) (f0 f1 f2 f3 : FolderState) (out : SinkState)
     → HasInputs words of file f0 f1 f2 → Closed file (record { before = f2; after = f3 }) → most_frame_texels < frame_texels words of
     → EndsBy {T = Unit {0}} (walk_spec m words) (over f0 f3 out out) (Err Usage)
 many_refused m words of file f0 f1 f2 f3 out h closed many =
@@ -135,17 +135,17 @@ many_refused m words of file f0 f1 f2 f3 out h closed many =
     )
 
 -- the store's file as a walk sees it
-abbrev pub file_of : FileState → Requests.FileState
+abbrev pub file_of : OpenFileState → Requests.FileState
 file_of file = record { name = file.name; asked = file.asked; faults = file.faults }
 
 -- the walk that the words ask for, over these bytes of the store
-abbrev pub given_told : MachineKind → WalkText → WalkOf → Option (List ℕ) → WalkGiven
-given_told m words of told =
+abbrev pub given_known : MachineKind → WalkText → WalkOf → Option (List ℕ) → WalkGiven
+given_known m words of known =
     given_by m.draws (scene_of of.shape of.depth of.path) (settings_of words) (mode_of words.settled)
-    told (walk_names words)
+    known (walk_names words)
 
 -- what was there before a walk, with the store's file that is open
-abbrev pub began : WalkText → FileState → FolderState → SinkState → WalkState
+abbrev pub began : WalkText → OpenFileState → FolderState → SinkState → WalkState
 began words file f out = record {
   files = f.files;
   held = out.held;
@@ -168,7 +168,7 @@ ended words f out = record {
 abbrev pub CameTo : MachineKind → WalkGiven → WalkState → WalkState → Result (Unit {0}) WalkError → Type 0
 CameTo m g first last r = MatchResult r (λ _. Finished m.drawn g first last) (WalkLeftBy m.drawn g first last)
 
-header_asked : (store : List ℕ) (asked : Option Asked) (file : FileState) → file.asked ≡ option_map (λ (_ : Asked). header_places) asked
+header_asked : (store : List ℕ) (asked : Option Asked) (file : OpenFileState) → file.asked ≡ option_map (λ (_ : Asked). header_places) asked
     → option_map (λ (a : Asked). a store ++ places_of (file_of file ∷ [])) asked ≡ option_map (λ (a : Asked). a store ++ header_places) asked
 header_asked store None file is = refl
 header_asked store (Some a) file is =
@@ -176,20 +176,20 @@ header_asked store (Some a) file is =
     ∙ ap (λ (places : List Place). Some (a store ++ places)) (append-nil header_places)
 
 none_open : (store : List ℕ) (asked : Option Asked)
-    → OnTold AreSamePlaces (option_map (λ (a : Asked). a store ++ places_of []) asked) (option_map (λ (a : Asked). a store) asked)
+    → OnKnown AreSamePlaces (option_map (λ (a : Asked). a store ++ places_of []) asked) (option_map (λ (a : Asked). a store) asked)
 none_open store None = tt
 none_open store (Some a) =
-    subst (λ (places : List Place). OnTold AreSamePlaces (Some places) (Some (a store))) (sym (append-nil (a store))) (same_places (Some (a store)))
+    subst (λ (places : List Place). OnKnown AreSamePlaces (Some places) (Some (a store))) (sym (append-nil (a store))) (same_places (Some (a store)))
 
 -- how a walk ended, from when its inputs were read
-from_inputs : (m : MachineKind) (words : WalkText) (of : WalkOf) (file : FileState) (f0 f1 f2 f3 : FolderState) (out shown : SinkState)
+from_inputs : (m : MachineKind) (words : WalkText) (of : WalkOf) (file : OpenFileState) (f0 f1 f2 f3 : FolderState) (out shown : SinkState)
     (r : Result (Unit {0}) WalkError) → HasInputs words of file f0 f1 f2
-    → CameTo m (given_told m words of file.bytes) (began words file f2 out) (ended words f3 shown) r
+    → CameTo m (given_known m words of file.bytes) (began words file f2 out) (ended words f3 shown) r
     → CameTo m (walk_given m words of f0.files) (walk_first words f1.asked (over f0 f3 out shown)) (walk_last words (over f0 f3 out shown)) r
 from_inputs m words of file f0 f1 f2 f3 out shown r h came =
     let g = walk_given m words of f0.files in
     let last = walk_last words (over f0 f3 out shown) in
-    let told : file.bytes ≡ bytes_at f0.files words.store =
+    let known : file.bytes ≡ bytes_at f0.files words.store =
     h.opened.bytes ∙ ap (λ (files : Option Files). bytes_at files words.store) h.path_read.files in
     let asked : option_map (λ (a : Asked). a words.store ++ places_of (file_of file ∷ [])) f2.asked
     ≡ option_map (λ (a : Asked). a words.store ++ header_places) f1.asked =
@@ -203,7 +203,7 @@ from_inputs m words of file f0 f1 f2 f3 out shown r h came =
       asked = places;
     } in
     let of_bytes : CameTo m g (began words file f2 out) (ended words f3 shown) r =
-    subst (λ (o : Option (List ℕ)). CameTo m (given_told m words of o) (began words file f2 out) (ended words f3 shown) r) told came in
+    subst (λ (o : Option (List ℕ)). CameTo m (given_known m words of o) (began words file f2 out) (ended words f3 shown) r) known came in
     let of_files : CameTo m g (first f0.files (option_map (λ (a : Asked). a words.store ++ header_places) f1.asked)) (ended words f3 shown) r =
     subst (λ (s : WalkState). CameTo m g s (ended words f3 shown) r) (ap₂ first (h.opened.files ∙ h.path_read.files) asked) of_bytes in
     ends_alike m.drawn g (walk_first words f1.asked (over f0 f3 out shown)) (ended words f3 shown) last alike r
@@ -217,16 +217,16 @@ from_inputs m words of file f0 f1 f2 f3 out shown r h came =
     few = let path = h.path_read.faults in let opened = h.opened.faults in omega (arith, path, opened)
 
 -- what is known of a walk that was made
-pub record WasMade (m : MachineKind) (words : WalkText) (of : WalkOf) (file : FileState) (f0 f1 f2 f3 : FolderState) (out shown : SinkState)
+pub record WasMade (m : MachineKind) (words : WalkText) (of : WalkOf) (file : OpenFileState) (f0 f1 f2 f3 : FolderState) (out shown : SinkState)
     (r : Result (Unit {0}) WalkError) : Type 0 where
   pub inputs : HasInputs words of file f0 f1 f2
   pub few_texels : frame_texels words of ≤ most_frame_texels
   pub apart : IsApart (walk_names words)
-  pub came : CameTo m (given_told m words of file.bytes) (began words file f2 out) (ended words f3 shown) r
+  pub came : CameTo m (given_known m words of file.bytes) (began words file f2 out) (ended words f3 shown) r
   pub few_frames : words.frames < walk_pinned words of → r ≡ Err (walks.TooFewFrames words.frames (walk_pinned words of))
   pub others : AreOtherNamesAsBefore words.store f2.asked f3.asked
 
-asks_walk : (m : MachineKind) (words : WalkText) (of : WalkOf) (file : FileState) (f0 f1 f2 f3 : FolderState) (out shown : SinkState)
+asks_walk : (m : MachineKind) (words : WalkText) (of : WalkOf) (file : OpenFileState) (f0 f1 f2 f3 : FolderState) (out shown : SinkState)
     → HasInputs words of file f0 f1 f2 → AreOtherNamesAsBefore words.store f2.asked f3.asked
     → HasWalked m words (contents_of of) (over f0 f3 out shown) ⊎ HasLeft m words (contents_of of) (over f0 f3 out shown)
     → WalkAsks m words (over f0 f3 out shown)
@@ -253,7 +253,7 @@ no_conflict m words of files first last few f (LargePicture picture wanted room)
     fits_or_not (walk_given m words of files).setup picture wanted (f.fits h.settled picture h.of_path) h.unfit
 
 -- the walk is finished
-walk_done : (m : MachineKind) (words : WalkText) (of : WalkOf) (file : FileState) (f0 f1 f2 f3 : FolderState) (out shown : SinkState)
+walk_done : (m : MachineKind) (words : WalkText) (of : WalkOf) (file : OpenFileState) (f0 f1 f2 f3 : FolderState) (out shown : SinkState)
     → WasMade m words of file f0 f1 f2 f3 out shown (Ok tt) → EndsBy {T = Unit {0}} (walk_spec m words) (over f0 f3 out shown) (Ok tt)
 walk_done m words of file f0 f1 f2 f3 out shown made =
     let h = made.inputs in
@@ -279,7 +279,7 @@ walk_done m words of file f0 f1 f2 f3 out shown made =
     )
 
 -- why a walk was left, as the specification says it
-why_left : (m : MachineKind) (words : WalkText) (of : WalkOf) (file : FileState) (f0 f1 f2 f3 : FolderState) (out shown : SinkState) (error : WalkError)
+why_left : (m : MachineKind) (words : WalkText) (of : WalkOf) (file : OpenFileState) (f0 f1 f2 f3 : FolderState) (out shown : SinkState) (error : WalkError)
     → WasMade m words of file f0 f1 f2 f3 out shown (Err error)
     → IsCausedBy m.drawn (walk_given m words of f0.files) (walk_first words f1.asked (over f0 f3 out shown))
     (walk_last words (over f0 f3 out shown)) error
@@ -348,7 +348,7 @@ why_left m words of file f0 f1 f2 f3 out shown walks.Failed made (inr lost) = in
 why_left m words of file f0 f1 f2 f3 out shown walks.NoMemory made cause = tt
 
 -- the walk was left
-walk_left : (m : MachineKind) (words : WalkText) (of : WalkOf) (file : FileState) (f0 f1 f2 f3 : FolderState) (out shown : SinkState) (error : WalkError)
+walk_left : (m : MachineKind) (words : WalkText) (of : WalkOf) (file : OpenFileState) (f0 f1 f2 f3 : FolderState) (out shown : SinkState) (error : WalkError)
     → WasMade m words of file f0 f1 f2 f3 out shown (Err error)
     → EndsBy {T = Unit {0}} (walk_spec m words) (over f0 f3 out shown) (Err (refusal_of_walk error))
 walk_left m words of file f0 f1 f2 f3 out shown error made =
@@ -372,14 +372,14 @@ walk_left m words of file f0 f1 f2 f3 out shown error made =
 -- the frames have few enough texels where they have not too many
 pub not_many : (words : WalkText) (of : WalkOf) (shape : Shape) (many : Bool) → shape ≡ of.shape
     → (most_frame_texels < words.frames * (shape.tile * shape.tile) → IsTrue many) → many ≡ false → frame_texels words of ≤ most_frame_texels
-not_many words of shape many same told none =
+not_many words of shape many same known none =
     subst (λ (s : Shape). words.frames * (s.tile * s.tile) ≤ most_frame_texels) same
     (few (cases_lt most_frame_texels (words.frames * (shape.tile * shape.tile))))
   where
     few : (most_frame_texels < words.frames * (shape.tile * shape.tile)) ⊎ (words.frames * (shape.tile * shape.tile) ≤ most_frame_texels)
         → words.frames * (shape.tile * shape.tile) ≤ most_frame_texels
     few (inr is) = is
-    few (inl over) = absurd (false≢true (sym none ∙ told over))
+    few (inl over) = absurd (false≢true (sym none ∙ known over))
 
 -- where none of five is, the third is not
 third_is_no : (a b c d e : Bool) → ((((a || b) || c) || d) || e) ≡ false → c ≡ false
@@ -395,8 +395,8 @@ names_apart words none =
     (bytes_eq words.journal words.store) (bytes_eq words.journal words.path) none
 
 -- how a walk ends, by its answer
-pub walk_ends : (m : MachineKind) (words : WalkText) (of : WalkOf) (file : FileState) (f0 f1 f2 f3 : FolderState) (out shown : SinkState)
-    (walked : Result (Unit {0}) WalkError) (r : Result (Unit {0}) Refusal) → WasMade m words of file f0 f1 f2 f3 out shown walked → IsAnswer walked r
+pub walk_ends : (m : MachineKind) (words : WalkText) (of : WalkOf) (file : OpenFileState) (f0 f1 f2 f3 : FolderState) (out shown : SinkState)
+    (walked : Result (Unit {0}) WalkError) (r : Result (Unit {0}) Refusal) → WasMade m words of file f0 f1 f2 f3 out shown walked → IsWalkAnswer walked r
     → EndsBy {T = Unit {0}} (walk_spec m words) (over f0 f3 out shown) r
 walk_ends m words of file f0 f1 f2 f3 out shown (Ok tt) r made is =
     subst (λ (a : Result (Unit {0}) Refusal). EndsBy {T = Unit {0}} (walk_spec m words) (over f0 f3 out shown) a) (sym is)

@@ -35,7 +35,7 @@ pub fn walk_live<Rt: Threads + Wait + Sync, D: Folder, O: Sink, G: Gate + Sync>(
 ) -> Result<(), WalkError>
     requires settings { AreSettings store.shape settings.now }
     requires bytes { D.File.bytes store.file ≡ bytes_at (D.files folder.old) names.now.store.now }
-    requires tells { is_some (D.File.bytes store.file) ≡ is_some (D.files folder.old) }
+    requires known_too { is_some (D.File.bytes store.file) ≡ is_some (D.files folder.old) }
     requires opened { AreOpen 1 names.now.store.now (D.asked folder.old) (file_of D.File.File store) }
     ensures walked { Walks (IsDrawnBySome ⟦<WordMachine<D::File> as PassMachine>⟧)
         (given_to nearest D.File.File store path.now names.now settings.now false)
@@ -67,7 +67,7 @@ pub fn walk_settled<Rt: Threads + Wait + Sync, D: Folder, O: Sink, G: Gate + Syn
 ) -> Result<(), WalkError>
     requires settings { AreSettings store.shape settings.now }
     requires bytes { D.File.bytes store.file ≡ bytes_at (D.files folder.old) names.now.store.now }
-    requires tells { is_some (D.File.bytes store.file) ≡ is_some (D.files folder.old) }
+    requires known_too { is_some (D.File.bytes store.file) ≡ is_some (D.files folder.old) }
     requires opened { AreOpen 1 names.now.store.now (D.asked folder.old) (file_of D.File.File store) }
     ensures walked { Walks (IsDrawnBySome ⟦<WordMachine<D::File> as PassMachine>⟧)
         (given_to nearest D.File.File store path.now names.now settings.now true)

@@ -15,14 +15,14 @@ input_room t = t.settings.frames - t.pinned
 -- a walk may go on after a pass: settled only where nothing was lost and the picture fits
 pub record MayGoOn (t : WalkInput) (p : Passed) : Type 0 where
   pub none_lost : t.mode ≡ Settled → p.lost ≡ 0
-  pub fits : t.mode ≡ Settled → p.outlook.needed ≤ input_room t
+  pub fits : t.mode ≡ Settled → p.next_plan.needed ≤ input_room t
 
 -- a settled walk's picture needs more frames than there are
 pub record IsUnfit (t : WalkInput) (p : Passed) (picture wanted room : ℕ) : Type 0 where
   pub settled : t.mode ≡ Settled
   pub none_lost : p.lost ≡ 0
   pub picture_is : picture ≡ p.picture
-  pub wanted_are : wanted ≡ p.outlook.needed
+  pub wanted_are : wanted ≡ p.next_plan.needed
   pub room_is : room ≡ input_room t
   pub unfit : room < wanted
 
@@ -45,5 +45,5 @@ IsEnd Settled loads_nothing plan = IsTrue loads_nothing × (plan ≡ [])
 
 -- a pass has finished its picture, and the path has a next one
 pub record IsFollowed (t : WalkInput) (p : Passed) : Type 0 where
-  pub ends : IsEnd t.mode p.loads_nothing p.outlook.plan.elements
+  pub ends : IsEnd t.mode p.loads_nothing p.next_plan.plan.elements
   pub more : p.picture + 1 < length t.path.now.cameras

@@ -4,6 +4,6 @@ use Rattle.vt_outside.specs.declared.answers.OutsideError.TheVariants.{Failed, N
 use Rattle.vt_walk_decisions.specs.declared.error.WalkError.{WalkError}
 use Rattle.vt_walk_decisions.specs.declared.error.WalkError.TheVariants as walk_error
 
-abbrev pub refusal_by : OutsideError → WalkError
-refusal_by Failed = walk_error.Failed
-refusal_by NoMemory = walk_error.NoMemory
+abbrev pub walk_refusal_by : OutsideError → WalkError
+walk_refusal_by Failed = walk_error.Failed
+walk_refusal_by NoMemory = walk_error.NoMemory

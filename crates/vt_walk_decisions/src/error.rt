@@ -1,6 +1,6 @@
 ghost use Rattle.std.specs.Prelude.{◌≡◌};
 ghost use Rattle.vt_walk_decisions.specs.declared.error.WalkError.TheVariants as walk_error;
-ghost use Rattle.vt_walk_decisions.specs.Refusals.{refusal_by};
+ghost use Rattle.vt_walk_decisions.specs.Refusals.{walk_refusal_by};
 
 use thiserror::Error;
 use vt_outside::{NoMemory, OutsideError};
@@ -35,7 +35,7 @@ impl From<NoMemory> for WalkError {
 }
 
 impl From<OutsideError> for WalkError {
-    ghost from_gives = { λ e r. r ≡ refusal_by e };
+    ghost from_gives = { λ e r. r ≡ walk_refusal_by e };
 
     fn from(refusal: OutsideError) -> WalkError {
         match refusal {

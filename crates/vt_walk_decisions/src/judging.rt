@@ -37,10 +37,10 @@ pub fn judge(input: &WalkInput<'_>, passed: &Passed) -> Result<(), WalkError>
         return Err(WalkError::Failed);
     }
     let room = input.settings.frames - input.pinned;
-    if passed.outlook.needed > room {
+    if passed.next_plan.needed > room {
         return Err(WalkError::DoesNotFit {
             picture: passed.picture,
-            wanted: passed.outlook.needed,
+            wanted: passed.next_plan.needed,
             room,
         });
     }
@@ -66,7 +66,7 @@ pub fn is_written_beside(input: &WalkInput<'_>, passed: &Passed) -> bool
     let pixels = input.path.width().saturating_mul(input.path.height());
     pixels >= LEAST_BESIDE
         && has_next(input.path, passed.picture)
-        && is_finished(input.mode, passed.loads_nothing, &passed.outlook.plan)
+        && is_finished(input.mode, passed.loads_nothing, &passed.next_plan.plan)
 }
 
 // Whether a path has a picture after this one.

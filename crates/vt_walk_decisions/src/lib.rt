@@ -14,6 +14,6 @@ pub use input::WalkInput;
 pub use judging::{has_too_few_frames, is_finished, is_written_beside, judge, pinned_page};
 pub use mode::Mode;
 pub use settings::{Names, Settings};
-pub use steps::{Drawn, Next, Outlook, Passed, WalkStep, drawn_of, step_after};
+pub use steps::{Drawn, Next, NextPlan, Passed, WalkStep, drawn_of, step_after};
 pub use tallies::Tally;
 pub use vt_machine::{Crew, PassMachine, PassReport};

@@ -31,14 +31,14 @@ pub struct Passed {
     /// How many tiles were lost in it.
     pub lost: u64,
     /// What it leaves for the next pass.
-    pub outlook: Outlook,
+    pub next_plan: NextPlan,
     /// What was counted of its picture's passes so far.
     pub tally: Tally,
     /// How many tiles were asked for so far.
     pub reads: u64,
 }
 
-/// A pass that was drawn, and is to be told.
+/// A pass that was drawn, and is to be journaled.
 #[derive(Drop)]
 pub struct Drawn {
     pub text: PassText,
@@ -48,7 +48,7 @@ pub struct Drawn {
 /// What comes next in a walk.
 #[derive(Drop)]
 pub enum Next {
-    /// This pass, which was drawn, is to be told.
+    /// This pass, which was drawn, is to be journaled.
     Pass(Drawn),
     /// All pictures are finished, for which so many tiles were asked for.
     End(u64),
@@ -56,7 +56,7 @@ pub enum Next {
 
 /// What a pass leaves for the next one.
 #[derive(Drop)]
-pub struct Outlook {
+pub struct NextPlan {
     /// How many pages its picture wants.
     pub wanted: u64,
     /// How many unpinned pages are in the lines of these.
@@ -72,7 +72,7 @@ pub fn step_after(passed: Passed) -> WalkStep
 {
     WalkStep {
         picture: passed.picture + 1,
-        batch: passed.outlook.plan,
+        batch: passed.next_plan.plan,
         tally: Tally::new(),
         reads: passed.reads,
     }
@@ -84,14 +84,14 @@ pub fn drawn_of(
     step: WalkStep,
     start: u64,
     report: PassReport,
-    outlook: Outlook,
+    next_plan: NextPlan,
 ) -> Drawn
     requires passes { step.tally.passes + 1 < 2 ^ 32 }
     requires loaded { step.tally.loaded + length report.events.elements < 2 ^ 64 }
     requires lost { step.tally.lost + length report.events.elements < 2 ^ 64 }
     requires evicted { step.tally.evicted + length report.events.elements < 2 ^ 64 }
     requires reads { step.reads + length step.batch.elements < 2 ^ 64 }
-    ensures { IsReported number step start report outlook result }
+    ensures { IsReported number step start report next_plan result }
 {
     let PassReport {
         rows,
@@ -103,7 +103,7 @@ pub fn drawn_of(
         picture: step.picture,
         loads_nothing: batch == 0,
         lost: count_lost(&losses),
-        outlook,
+        next_plan,
         tally: step.tally.with_pass(events.slice()),
         reads: step.reads + batch as u64,
     };

@@ -14,8 +14,8 @@ use Rattle.vt_machine.proofs.SettleLemmas.{same_bool}
 use Rattle.vt_machine.specs.Outcomes.{lost_count}
 use Rattle.vt_walk.specs.WalkDecisionsTypes.mode.Mode.{Mode}
 use Rattle.vt_walk.specs.WalkDecisionsTypes.mode.Mode.TheVariants.{Settled}
-use Rattle.vt_walk.specs.Fits.{WalkSetup, Fits}
-use Rattle.vt_walk.specs.Runs.{WalkPass, IsWalkSetup, plan_after, Finishes, IsFinished, IsRun, planned_in}
+use Rattle.vt_walk.specs.Fits.{WalkSetup, PictureFits}
+use Rattle.vt_walk.specs.Runs.{WalkPass, IsWalkSetup, plan_after, Finishes, IsFinished, IsWalkRun, planned_in}
 use Rattle.vt_walk.specs.Logs.{passes_of}
 use Rattle.vt_walk_laws.specs.PassCounts.{picture_pages, batch_pages, IsAtPictureEnd, IsFinishedPicture}
 use Rattle.vt_walk.proofs.Showing.{self_number}
@@ -102,7 +102,7 @@ more_once w p q rest later first before l same left once =
     (more_parts w p q rest later first before x l same left there))))
 
 pub have_loaded : (w : WalkSetup) (later : List WalkPass) (first : WalkPass) (before : List WalkPass) → IsWalkSetup w → w.mode ≡ Settled
-    → IsRun w (later ++ first ∷ before)
+    → IsWalkRun w (later ++ first ∷ before)
     → AllByRecursion (λ p. p.picture ≡ first.picture) later → lost_count (newest_of later first).losses ≡ 0 → HaveLoaded w later first before
 have_loaded w [] first before h mode run same none = loaded_none w first before
 have_loaded w (p ∷ []) first before h mode run same none =
@@ -128,7 +128,7 @@ have_loaded w (p ∷ q ∷ later) first before h mode run same none =
 -- the end of a picture's run: nothing was lost in the newest pass, the picture fits, it loaded nothing, and nothing is planned
 pub record IsEnd (w : WalkSetup) (later : List WalkPass) (first : WalkPass) (before : List WalkPass) : Type 0 where
   pub none_lost : lost_count (newest_of later first).losses ≡ 0
-  pub fits : Fits w (newest_of later first).picture
+  pub fits : PictureFits w (newest_of later first).picture
   pub no_batch : (newest_of later first).batch ≡ []
   pub no_plan : plan_after w (later ++ first ∷ before) ≡ []
 
@@ -149,7 +149,7 @@ end_of w (p ∷ later) first before mode e =
     record { none_lost = g.0; fits = g.1; no_batch = d.0; no_plan = d.1 }
 
 -- after it nothing is to be loaded
-pub none_left : (w : WalkSetup) (later : List WalkPass) (first : WalkPass) (before : List WalkPass) → IsWalkSetup w → IsRun w (later ++ first ∷ before)
+pub none_left : (w : WalkSetup) (later : List WalkPass) (first : WalkPass) (before : List WalkPass) → IsWalkSetup w → IsWalkRun w (later ++ first ∷ before)
     → IsEnd w later first before
     → (newest_of later first).wants ≡ first.wants → to_load_after w (later ++ first ∷ before) first.wants ≡ []
 none_left w [] first before h run e same = done w first before h run e.fits e.no_plan
@@ -171,11 +171,11 @@ picture_passes (p ∷ later) first before same none =
     ++ first ∷ before))) (same_true p.picture first.picture same.0)
     ∙ ap (λ (l : List WalkPass). p ∷ l) (picture_passes later first before same.1 none)
 
-run_from : (w : WalkSetup) (later : List WalkPass) (first : WalkPass) (before : List WalkPass) → IsRun w (later ++ first ∷ before) → IsRun w (first ∷ before)
+run_from : (w : WalkSetup) (later : List WalkPass) (first : WalkPass) (before : List WalkPass) → IsWalkRun w (later ++ first ∷ before) → IsWalkRun w (first ∷ before)
 run_from w [] first before run = run
 run_from w (p ∷ later) first before run = run_from w later first before run.0
 
-begins_empty : (w : WalkSetup) (first : WalkPass) (before : List WalkPass) → w.mode ≡ Settled → IsRun w (first ∷ before)
+begins_empty : (w : WalkSetup) (first : WalkPass) (before : List WalkPass) → w.mode ≡ Settled → IsWalkRun w (first ∷ before)
     → passes_of first.picture before ≡ [] → first.batch ≡ []
 begins_empty w first [] mode run none = (first_step w first run).1
 begins_empty w first (q ∷ before) mode run none = settled_step w first q before mode run (λ same.

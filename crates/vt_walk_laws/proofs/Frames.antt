@@ -21,8 +21,8 @@ use Rattle.vt_walk.specs.FeedbackTypes.Wanted.{Wanted}
 use Rattle.vt_walk.specs.Wants.{pages_wanted}
 use Rattle.vt_machine.specs.Orders.{line_pages}
 use Rattle.vt_machine.specs.PageLists.{is_in}
-use Rattle.vt_walk.specs.Views.{RecencyView, IsTable, is_pinned, is_held, frame_of, free_frames, pages_needed}
-use Rattle.vt_machine.specs.Missing.{is_mapped, missing_from}
+use Rattle.vt_walk.specs.Views.{RecencyView, IsRecencyTable, is_pinned, is_held, frame_of, free_frames, pages_needed}
+use Rattle.vt_machine.specs.Missing.{has_frame, missing_from}
 use Rattle.vt_walk.specs.Plans.{missing_pages, candidates, planned_at, planned_count, plan_of}
 use Rattle.vt_machine.proofs.ListLemmas.{nat_eq_swap, is_in-append, is_in-reverse, each_once_distinct, distinct-filter, distinct-append, range_once}
 use Rattle.vt_machine.proofs.PlanListLemmas.{nat_eq_true, is_in-filter, is_in-each_once}
@@ -75,8 +75,8 @@ from_map g (z ∷ zs) x there = pick (nat_eq x (g z)) refl there (from_map g zs 
 pub record IsMissing (v : RecencyView) (wants : List Wanted) (x : ℕ) : Type 0 where
   pub page : ℕ
   pub wanted : is_in (pages_wanted wants) page ≡ true
-  pub unmapped : is_mapped v.entries page ≡ false
-  pub step : IsStep v.shape (is_mapped v.entries) page x
+  pub unmapped : has_frame v.entries page ≡ false
+  pub step : IsStep v.shape (has_frame v.entries) page x
 
 -- all wanted pages are pages
 abbrev pub ArePages : RecencyView → List Wanted → Type 0
@@ -94,24 +94,24 @@ are_pages v wants inside p there =
     in_all (pages_wanted wants) (pages_of v.shape) p (recursion_from_All (λ q. q < pages_of v.shape) (pages_wanted wants)
     (All-map (λ q. q < pages_of v.shape) (λ w. w.page) wants inside)) there
 
-pub missing_is : (v : RecencyView) (wants : List Wanted) (x : ℕ) → IsTable v → ArePages v wants → is_in (missing_pages v wants) x ≡ true → IsMissing v wants x
+pub missing_is : (v : RecencyView) (wants : List Wanted) (x : ℕ) → IsRecencyTable v → ArePages v wants → is_in (missing_pages v wants) x ≡ true → IsMissing v wants x
 unfolding missing_pages missing_from
 missing_is v wants x table inside there =
-    let t : ℕ → Bool = λ p. not (is_mapped v.entries p) in
-    let found = from_map (next_finer_page v.shape (is_mapped v.entries)) (filter (λ p. not (is_mapped v.entries p)) (pages_wanted wants)) x
-    (sym (is_in-each_once (map (next_finer_page v.shape (is_mapped v.entries)) (filter (λ p. not (is_mapped v.entries p)) (pages_wanted wants))) x) ∙ there) in
-    let parts = sym (is_in-filter (λ p. not (is_mapped v.entries p)) (pages_wanted wants) found.0) ∙ found.1 in
-    let wanted : is_in (pages_wanted wants) found.0 ≡ true = first_true (is_in (pages_wanted wants) found.0) (not (is_mapped v.entries found.0)) parts in
-    let low : is_mapped v.entries found.0 ≡ false = not_true (is_mapped v.entries found.0)
-    (second_true (is_in (pages_wanted wants) found.0) (not (is_mapped v.entries found.0)) parts) in
+    let t : ℕ → Bool = λ p. not (has_frame v.entries p) in
+    let found = from_map (next_finer_page v.shape (has_frame v.entries)) (filter (λ p. not (has_frame v.entries p)) (pages_wanted wants)) x
+    (sym (is_in-each_once (map (next_finer_page v.shape (has_frame v.entries)) (filter (λ p. not (has_frame v.entries p)) (pages_wanted wants))) x) ∙ there) in
+    let parts = sym (is_in-filter (λ p. not (has_frame v.entries p)) (pages_wanted wants) found.0) ∙ found.1 in
+    let wanted : is_in (pages_wanted wants) found.0 ≡ true = first_true (is_in (pages_wanted wants) found.0) (not (has_frame v.entries found.0)) parts in
+    let low : has_frame v.entries found.0 ≡ false = not_true (has_frame v.entries found.0)
+    (second_true (is_in (pages_wanted wants) found.0) (not (has_frame v.entries found.0)) parts) in
     let page : found.0 < pages_of v.shape = inside found.0 wanted in
     let below = level_below v.shape found.0 table.limits page in
     record {
       page = found.0;
       wanted = wanted;
       unmapped = low;
-      step = subst (IsStep v.shape (is_mapped v.entries) found.0) found.2
-          (step_is v.shape (is_mapped v.entries) (levels_of v.shape - 1 - level_of v.shape found.0) found.0 table.limits (omega (arith, below)) page low);
+      step = subst (IsStep v.shape (has_frame v.entries) found.0) found.2
+          (step_is v.shape (has_frame v.entries) (levels_of v.shape - 1 - level_of v.shape found.0) found.0 table.limits (omega (arith, below)) page low);
     }
 
 -- what is in a wanted page's line is in the lines
@@ -139,7 +139,7 @@ lt_true n h = grind (arith, nat_tests)
 abbrev pins_of : RecencyView → List ℕ
 pins_of v = range_with_len (pages_of v.shape - v.pinned) v.pinned
 
-holder_in : (v : RecencyView) (p f : ℕ) → IsTable v → slice_index v.entries p ≡ f + 1 → is_in (pins_of v ++ v.order) p ≡ true
+holder_in : (v : RecencyView) (p f : ℕ) → IsRecencyTable v → slice_index v.entries p ≡ f + 1 → is_in (pins_of v ++ v.order) p ≡ true
 holder_in v p f table at = is_in-append (pins_of v) v.order p ∙ pick (is_pinned v p) refl where
   inside : p < pages_of v.shape
   inside = elim (cases_lt p (pages_of v.shape)) [
@@ -151,10 +151,10 @@ holder_in v p f table at = is_in-append (pins_of v) v.order p ∙ pick (is_pinne
   pick true pinned = or_left (is_in (pins_of v) p) (is_in v.order p)
       (is_in-range (pages_of v.shape - v.pinned) v.pinned p ∙ in_range p (pages_of v.shape) v.pinned inside pinned table.enough_pages)
   pick false loose = or_right (is_in (pins_of v) p) (is_in v.order p)
-      (table.in_order p ∙ both (is_mapped v.entries p) (not (is_pinned v p)) (lt_true (slice_index v.entries p) (omega (arith, at))) (ap not loose))
+      (table.in_order p ∙ both (has_frame v.entries p) (not (is_pinned v p)) (lt_true (slice_index v.entries p) (omega (arith, at))) (ap not loose))
 
 -- each frame is free, or that of a pinned page, or of one that may move
-frames_held : (v : RecencyView) → IsTable v → v.frames ≤ v.pinned + length v.order + length (free_frames v)
+frames_held : (v : RecencyView) → IsRecencyTable v → v.frames ≤ v.pinned + length v.order + length (free_frames v)
 unfolding free_frames
 frames_held v table =
     let few = length-le_from_is_member nat_eq_equiv (range_with_len 0 v.frames) (free_frames v
@@ -188,9 +188,9 @@ in_lines_of v wants p = is_in (line_pages v.shape (pages_wanted wants)) p
 abbrev needed_pages : RecencyView → List Wanted → List ℕ
 needed_pages v wants = filter (λ p. not (is_pinned v p)) (line_pages v.shape (pages_wanted wants))
 
-missing_needed : (v : RecencyView) (wants : List Wanted) (x : ℕ) → IsTable v → IsMissing v wants x → is_in (needed_pages v wants) x ≡ true
+missing_needed : (v : RecencyView) (wants : List Wanted) (x : ℕ) → IsRecencyTable v → IsMissing v wants x → is_in (needed_pages v wants) x ≡ true
 missing_needed v wants x table h =
-    let line = front_in (is_mapped v.entries) (ancestors_of v.shape h.page) x h.step.before in
+    let line = front_in (has_frame v.entries) (ancestors_of v.shape h.page) x h.step.before in
     is_in-filter (λ p. not (is_pinned v p)) (line_pages v.shape (pages_wanted wants)) x
     ∙ both (in_lines_of v wants x) (not (is_pinned v x)) (in_wanted_lines v.shape (pages_wanted wants) h.page x h.wanted line.in_list)
     (ap not (unpinned (is_pinned v x) refl)) where
@@ -200,14 +200,14 @@ missing_needed v wants x table h =
 
 pub missing_distinct : (v : RecencyView) (wants : List Wanted) → IsDistinct nat_eq (missing_pages v wants)
 unfolding missing_pages missing_from
-missing_distinct v wants = each_once_distinct (map (next_finer_page v.shape (is_mapped v.entries)) (filter (λ p. not (is_mapped v.entries p)) (pages_wanted wants)))
+missing_distinct v wants = each_once_distinct (map (next_finer_page v.shape (has_frame v.entries)) (filter (λ p. not (has_frame v.entries p)) (pages_wanted wants)))
 
 twice : (b : Bool) → b ≡ not (not b)
 twice true = refl
 twice false = refl
 
 -- missing pages, and those that are mapped and needed, are needed; the others that may move are candidates
-pages_fit : (v : RecencyView) (wants : List Wanted) → IsTable v → ArePages v wants
+pages_fit : (v : RecencyView) (wants : List Wanted) → IsRecencyTable v → ArePages v wants
     → length (missing_pages v wants) + length v.order ≤ pages_needed v wants + length (candidates v wants)
 unfolding candidates pages_needed
 pages_fit v wants table inside =
@@ -229,14 +229,14 @@ pages_fit v wants table inside =
       ordered x there = ap (λ b. b && in_lines_of v wants x) (sym (is_in-reverse v.order x))
           ∙ sym (is_in-filter (in_lines_of v wants) (reverse v.order) x) ∙ there
 
-      loose : (x : ℕ) → is_in v.order x ≡ true → (is_mapped v.entries x && not (is_pinned v x)) ≡ true
+      loose : (x : ℕ) → is_in v.order x ≡ true → (has_frame v.entries x && not (is_pinned v x)) ≡ true
       loose x there = sym (table.in_order x) ∙ there
 
       apart : (x : ℕ) → is_in (missing_pages v wants) x ≡ true → is_in (filter (in_lines_of v wants) (reverse v.order)) x ≡ false
       apart x there = pick (is_in (filter (in_lines_of v wants) (reverse v.order)) x) refl where
         pick : (b : Bool) → is_in (filter (in_lines_of v wants) (reverse v.order)) x ≡ b → b ≡ false
         pick true e = absurd (false≢true (sym (missing_is v wants x table inside there).step.unmapped
-            ∙ first_true (is_mapped v.entries x) (not (is_pinned v x)) (loose x (first_true (is_in v.order x) (in_lines_of v wants x) (ordered x e)))))
+            ∙ first_true (has_frame v.entries x) (not (is_pinned v x)) (loose x (first_true (is_in v.order x) (in_lines_of v wants x) (ordered x e)))))
         pick false e = refl
 
       covered : (x : ℕ) → is_in (missing_pages v wants ++ filter (in_lines_of v wants) (reverse v.order)) x ≡ true → is_in (needed_pages v wants) x ≡ true
@@ -248,10 +248,10 @@ pages_fit v wants table inside =
             pick false e rest =
                 is_in-filter (λ p. not (is_pinned v p)) (line_pages v.shape (pages_wanted wants)) x
                 ∙ both (in_lines_of v wants x) (not (is_pinned v x)) (second_true (is_in v.order x) (in_lines_of v wants x) (ordered x rest))
-                (second_true (is_mapped v.entries x) (not (is_pinned v x)) (loose x (first_true (is_in v.order x) (in_lines_of v wants x) (ordered x rest))))
+                (second_true (has_frame v.entries x) (not (is_pinned v x)) (loose x (first_true (is_in v.order x) (in_lines_of v wants x) (ordered x rest))))
 
 -- a plan for pages that fit has all that are missing, or as many as a batch may have
-pub plan_full : (v : RecencyView) (wants : List Wanted) (q : ℕ) → IsTable v → ArePages v wants → pages_needed v wants ≤ v.frames - v.pinned
+pub plan_full : (v : RecencyView) (wants : List Wanted) (q : ℕ) → IsRecencyTable v → ArePages v wants → pages_needed v wants ≤ v.frames - v.pinned
     → length (plan_of v wants q) ≡ min q (length (missing_pages v wants))
 unfolding plan_of
 plan_full v wants q table inside fits =

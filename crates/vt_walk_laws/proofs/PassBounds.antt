@@ -17,8 +17,8 @@ use Rattle.vt_machine.proofs.SettleLemmas.{self_eq}
 use Rattle.vt_machine.specs.Outcomes.{lost_count}
 use Rattle.vt_walk.specs.WalkDecisionsTypes.mode.Mode.{Mode}
 use Rattle.vt_walk.specs.WalkDecisionsTypes.mode.Mode.TheVariants.{Settled}
-use Rattle.vt_walk.specs.Fits.{WalkSetup, Fits}
-use Rattle.vt_walk.specs.Runs.{WalkPass, IsWalkSetup, recency_after, plan_after, Finishes, IsFinished, IsPictureAfter, GoesOn, IsRun, planned_in}
+use Rattle.vt_walk.specs.Fits.{WalkSetup, PictureFits}
+use Rattle.vt_walk.specs.Runs.{WalkPass, IsWalkSetup, recency_after, plan_after, Finishes, IsFinished, IsPictureAfter, WalkGoesOn, IsWalkRun, planned_in}
 use Rattle.vt_walk.specs.Logs.{passes_of}
 use Rattle.vt_walk_laws.specs.PassCounts.{pages_to_load, mapped_after, picture_pages, most_in_line, batch_pages, IsFinishedPicture}
 use Rattle.vt_walk_laws.proofs.Frames.{or_left}
@@ -29,7 +29,7 @@ use Rattle.vt_walk_laws.proofs.Loading.{to_load_after, most_after, fitting, IsLo
 use Rattle.vt_walk_laws.proofs.Counted.{newest_of, loaded_of, end_of, picture_passes, all_asked, first_empty}
 
 -- a pass after which a picture goes on did not finish it
-goes_unfinished : (w : WalkSetup) (p q : WalkPass) (rest : List WalkPass) → IsRun w (p ∷ q ∷ rest) → p.picture ≡ q.picture → IsFinished w q rest → ⊥
+goes_unfinished : (w : WalkSetup) (p q : WalkPass) (rest : List WalkPass) → IsWalkRun w (p ∷ q ∷ rest) → p.picture ≡ q.picture → IsFinished w q rest → ⊥
 goes_unfinished w p q rest run same is = pick run.1.step.1 where
   pick : IsPictureAfter (IsFinished w q rest) q.picture p.picture → ⊥
   pick (inl next) = absurd (omega (arith, next.1, same))
@@ -40,7 +40,7 @@ finished_by w q rest mode batch plan =
     subst (λ (m : Mode). Finishes m q.batch (plan_after w (q ∷ rest))) (sym mode) (batch, plan)
 
 -- where all wanted pages are mapped, nothing is to be loaded
-all_mapped : (w : WalkSetup) (q : WalkPass) (rest : List WalkPass) → IsWalkSetup w → IsRun w (q ∷ rest) → Fits w q.picture
+all_mapped : (w : WalkSetup) (q : WalkPass) (rest : List WalkPass) → IsWalkSetup w → IsWalkRun w (q ∷ rest) → PictureFits w q.picture
     → ((page : ℕ) → is_in (pages_wanted q.wants) page ≡ true → mapped_after w (q ∷ rest) page ≡ true) → to_load_after w (q ∷ rest) q.wants ≡ []
 all_mapped w q rest h run fit mapped =
     let f = fitting w q rest h run fit in
@@ -60,14 +60,14 @@ no_page_in [] none = refl
 no_page_in (e ∷ batch) none = absurd (none e.page (or_left (nat_eq e.page e.page) (is_in (batch_pages batch) e.page) (self_eq e.page)))
 
 -- where nothing is to be loaded, nothing is planned
-no_plan : (w : WalkSetup) (q : WalkPass) (rest : List WalkPass) → IsWalkSetup w → IsRun w (q ∷ rest) → Fits w q.picture
+no_plan : (w : WalkSetup) (q : WalkPass) (rest : List WalkPass) → IsWalkSetup w → IsWalkRun w (q ∷ rest) → PictureFits w q.picture
     → to_load_after w (q ∷ rest) q.wants ≡ [] → plan_after w (q ∷ rest) ≡ []
 no_plan w q rest h run fit none = no_page_in (plan_after w (q ∷ rest)) (λ x there.
     absurd (false≢true (sym (ap (λ (l : List ℕ). is_in l x) none) ∙ plan_inside w q rest h run fit x there)))
 
 -- a later pass that loads nothing finishes its picture
-stops : (w : WalkSetup) (p q : WalkPass) (rest : List WalkPass) → IsWalkSetup w → w.mode ≡ Settled → IsRun w (p ∷ q ∷ rest) → p.picture ≡ q.picture
-    → GoesOn w.mode w p
+stops : (w : WalkSetup) (p q : WalkPass) (rest : List WalkPass) → IsWalkSetup w → w.mode ≡ Settled → IsWalkRun w (p ∷ q ∷ rest) → p.picture ≡ q.picture
+    → WalkGoesOn w.mode w p
     → p.batch ≡ [] → IsFinished w p (q ∷ rest)
 stops w p q rest h mode run same goes empty =
     let g = fits_of w p mode goes in
@@ -79,13 +79,13 @@ stops w p q rest h mode run same goes empty =
     (no_plan w p (q ∷ rest) h run g.1 (subst (λ (ws : List Wanted). to_load_after w (p ∷ q ∷ rest) ws ≡ []) (sym l.wants) after))
 
 -- a picture that its first pass finishes has no other
-first_unfinished : (w : WalkSetup) (later : List WalkPass) (p first : WalkPass) (before : List WalkPass) → IsRun w ((p ∷ later) ++ first ∷ before)
+first_unfinished : (w : WalkSetup) (later : List WalkPass) (p first : WalkPass) (before : List WalkPass) → IsWalkRun w ((p ∷ later) ++ first ∷ before)
     → AllByRecursion (λ q. q.picture ≡ first.picture) (p ∷ later) → IsFinished w first before → ⊥
 first_unfinished w [] p first before run same is = goes_unfinished w p first before run same.0 is
 first_unfinished w (q ∷ later) p first before run same is = first_unfinished w later q first before run.0 same.1 is
 
 first_goes : (w : WalkSetup) (later : List WalkPass) (p first : WalkPass) (before : List WalkPass) → w.mode ≡ Settled
-    → IsRun w ((p ∷ later) ++ first ∷ before) → IsRun w (first ∷ before) × Fits w first.picture
+    → IsWalkRun w ((p ∷ later) ++ first ∷ before) → IsWalkRun w (first ∷ before) × PictureFits w first.picture
 first_goes w [] p first before mode run = (run.0, (fits_of w first mode run.1.step.0).1)
 first_goes w (q ∷ later) p first before mode run = first_goes w later q first before mode run.0
 
@@ -116,7 +116,7 @@ asked_few w later first before f =
     omega (arith, a, length-pages (planned_in later))
 
 -- no batch has more entries than it may
-planned_most : (w : WalkSetup) (later : List WalkPass) (rest : List WalkPass) → IsRun w (later ++ rest) → length (planned_in later) ≤ length later * w.most
+planned_most : (w : WalkSetup) (later : List WalkPass) (rest : List WalkPass) → IsWalkRun w (later ++ rest) → length (planned_in later) ≤ length later * w.most
 planned_most w [] rest run = omega arith
 planned_most w (p ∷ later) rest run =
     let few : length p.batch ≤ w.most = subst (λ (b : List Planned). length b ≤ w.most) (sym run.1.planned) (plan_most w (later ++ rest)) in
@@ -182,7 +182,7 @@ abbrev AllLoad : List WalkPass → Type 0
 AllLoad later = AllByRecursion (λ p. 1 ≤ length p.batch) later
 
 have_full : (w : WalkSetup) (later : List WalkPass) (first : WalkPass) (before : List WalkPass) → IsWalkSetup w → w.mode ≡ Settled
-    → IsRun w (later ++ first ∷ before)
+    → IsWalkRun w (later ++ first ∷ before)
     → AllByRecursion (λ p. p.picture ≡ first.picture) later → AllLoad later → lost_count (newest_of later first).losses ≡ 0 → HaveFull w later first before
 have_full w [] first before h mode run same load none = record { full = 0; entries = omega arith; wants = refl; shorter = omega arith }
 have_full w (p ∷ []) first before h mode run same load none =
@@ -203,7 +203,7 @@ some_entry (e ∷ batch) none = omega arith
 
 -- each later pass but the last loads something
 all_load : (w : WalkSetup) (last : WalkPass) (later : List WalkPass) (first : WalkPass) (before : List WalkPass) → IsWalkSetup w → w.mode ≡ Settled
-    → IsRun w (last ∷ later ++ first ∷ before) → AllByRecursion (λ p. p.picture ≡ first.picture) (last ∷ later) → AllLoad later
+    → IsWalkRun w (last ∷ later ++ first ∷ before) → AllByRecursion (λ p. p.picture ≡ first.picture) (last ∷ later) → AllLoad later
 all_load w last [] first before h mode run same = tt
 all_load w last (p ∷ []) first before h mode run same = (
   some_entry p.batch (λ empty. goes_unfinished w last p (first ∷ before) run (same.0
@@ -217,7 +217,7 @@ all_load w last (p ∷ q ∷ later) first before h mode run same = (
 )
 
 newest_kept : (w : WalkSetup) (last : WalkPass) (later : List WalkPass) (first : WalkPass) (before : List WalkPass) → w.mode ≡ Settled
-    → IsRun w (last ∷ later ++ first ∷ before)
+    → IsWalkRun w (last ∷ later ++ first ∷ before)
     → lost_count (newest_of later first).losses ≡ 0
 newest_kept w last [] first before mode run = (fits_of w first mode run.1.step.0).0
 newest_kept w last (p ∷ later) first before mode run = (fits_of w p mode run.1.step.0).0

@@ -7,10 +7,10 @@ use Rattle.std.proofs.lemmas.Bool.Decides.{nat_tests}
 use Rattle.vt_machine.specs.Changes.{newest}
 use Rattle.vt_walk.specs.WalkDecisionsTypes.mode.Mode.TheVariants.{Settled}
 use Rattle.vt_walk.specs.Fits.{WalkSetup}
-use Rattle.vt_walk.specs.Runs.{WalkPass, IsWalkSetup, IsFinished, IsPictureAfter, GoesOn, IsRun, IsWhole, journal_after}
+use Rattle.vt_walk.specs.Runs.{WalkPass, IsWalkSetup, IsFinished, IsPictureAfter, WalkGoesOn, IsWalkRun, IsWhole, journal_after}
 use Rattle.vt_walk.specs.Logs.{passes_of}
 use Rattle.vt_walk_laws.specs.PassCounts.{IsAtPictureEnd, HasPicture, mapped_after}
-use Rattle.vt_walk.specs.Agreements.{entry_of}
+use Rattle.vt_walk.specs.Agreements.{entry_number_of}
 use Rattle.vt_walk.proofs.Running.{run_kept}
 use Rattle.vt_walk.proofs.Showing.{other_number}
 
@@ -19,7 +19,7 @@ skipped : (p : WalkPass) (passes : List WalkPass) (k : ℕ) → p.picture ≢ k 
 skipped p passes k other = ap (λ (b : Bool). cond b (p ∷ passes_of k passes) (passes_of k passes)) (other_number p.picture k other)
 
 -- no pass is of a picture after that of the newest one
-none_above : (w : WalkSetup) (q : WalkPass) (rest : List WalkPass) (k : ℕ) → IsRun w (q ∷ rest) → q.picture < k → passes_of k (q ∷ rest) ≡ []
+none_above : (w : WalkSetup) (q : WalkPass) (rest : List WalkPass) (k : ℕ) → IsWalkRun w (q ∷ rest) → q.picture < k → passes_of k (q ∷ rest) ≡ []
 none_above w q [] k run below = skipped q [] k (λ same. absurd (omega (arith, same, below)))
 none_above w q (r ∷ rest) k run below =
     skipped q (r ∷ rest) k (λ same. absurd (omega (arith, same, below))) ∙ none_above w r rest k run.0 (pick run.1.step.1) where
@@ -37,7 +37,7 @@ record IsSplit (passes : List WalkPass) (picture : ℕ) : Type 0 where
   pub later_passes : AllByRecursion (λ p. p.picture ≡ first.picture) later
   pub first_pass : passes_of first.picture before ≡ []
 
-split : (w : WalkSetup) (p : WalkPass) (passes : List WalkPass) → IsRun w (p ∷ passes) → IsSplit (p ∷ passes) p.picture
+split : (w : WalkSetup) (p : WalkPass) (passes : List WalkPass) → IsWalkRun w (p ∷ passes) → IsSplit (p ∷ passes) p.picture
 split w p [] run = record { later = []; first = p; before = []; whole = refl; number = refl; later_passes = tt; first_pass = refl }
 split w p (q ∷ rest) run = pick run.1.step.1 (split w q rest run.0) where
   pick : IsPictureAfter (IsFinished w q rest) q.picture p.picture → IsSplit (q ∷ rest) q.picture → IsSplit (p ∷ q ∷ rest) p.picture
@@ -60,7 +60,7 @@ split w p (q ∷ rest) run = pick run.1.step.1 (split w q rest run.0) where
     first_pass = s.first_pass;
   }
 
-pub newest_picture : (w : WalkSetup) (p : WalkPass) (passes : List WalkPass) → IsWalkSetup w → w.mode ≡ Settled → IsRun w (p ∷ passes) → GoesOn w.mode w p
+pub newest_picture : (w : WalkSetup) (p : WalkPass) (passes : List WalkPass) → IsWalkSetup w → w.mode ≡ Settled → IsWalkRun w (p ∷ passes) → WalkGoesOn w.mode w p
     → IsFinished w p passes
     → HasPicture w (p ∷ passes) p.picture
 newest_picture w p passes h mode run goes finished =
@@ -73,7 +73,7 @@ newest_picture w p passes h mode run goes finished =
       finished = record {
         setup = h;
         settled = mode;
-        run = subst (IsRun w) s.whole run;
+        run = subst (IsWalkRun w) s.whole run;
         later_passes = s.later_passes;
         first_pass = s.first_pass;
         end = subst (IsAtPictureEnd w) s.whole end;
@@ -93,7 +93,7 @@ more_passes w p passes k other s = record {
   passes_are = skipped p passes k other ∙ s.passes_are;
 }
 
-pub earlier_picture : (w : WalkSetup) (p : WalkPass) (passes : List WalkPass) (k : ℕ) → IsWalkSetup w → w.mode ≡ Settled → IsRun w (p ∷ passes) → k < p.picture
+pub earlier_picture : (w : WalkSetup) (p : WalkPass) (passes : List WalkPass) (k : ℕ) → IsWalkSetup w → w.mode ≡ Settled → IsWalkRun w (p ∷ passes) → k < p.picture
     → HasPicture w (p ∷ passes) k
 earlier_picture w p [] k h mode run below = absurd (let first = run.1.step in omega (arith, first, below))
 earlier_picture w p (q ∷ rest) k h mode run below =
@@ -108,7 +108,7 @@ earlier_picture w p (q ∷ rest) k h mode run below =
       pick (inl next) before = at next.0 before (omega (arith, next.1, below)) (cases_lt k q.picture)
       pick (inr on) before = before (omega (arith, on.1, below))
 
-pub whole_picture : (w : WalkSetup) (passes : List WalkPass) (k : ℕ) → IsWalkSetup w → w.mode ≡ Settled → IsRun w passes → IsWhole w passes
+pub whole_picture : (w : WalkSetup) (passes : List WalkPass) (k : ℕ) → IsWalkSetup w → w.mode ≡ Settled → IsWalkRun w passes → IsWhole w passes
     → k < w.pictures → HasPicture w passes k
 whole_picture w [] k h mode run whole below = absurd (omega (arith, whole, below))
 whole_picture w (p ∷ passes) k h mode run whole below = pick (cases_lt k p.picture) where
@@ -119,21 +119,21 @@ whole_picture w (p ∷ passes) k h mode run whole below = pick (cases_lt k p.pic
       subst (HasPicture w (p ∷ passes)) same (newest_picture w p passes h mode run whole.0 whole.1)
 
 -- a page is mapped where it is in the journal's newest version
-pub mapped_is : (w : WalkSetup) (passes : List WalkPass) (page : ℕ) → IsWalkSetup w → IsRun w passes → mapped_after w passes page ≡ true
+pub mapped_is : (w : WalkSetup) (passes : List WalkPass) (page : ℕ) → IsWalkSetup w → IsWalkRun w passes → mapped_after w passes page ≡ true
     → IsSome (newest (journal_after w passes) page)
 mapped_is w passes page h run high =
     some (newest (journal_after w passes) page) (ap (nat_lt 0) (sym ((run_kept w passes h run).agrees page)) ∙ high) where
-      some : (o : Option ℕ) → nat_lt 0 (entry_of o) ≡ true → IsSome o
+      some : (o : Option ℕ) → nat_lt 0 (entry_number_of o) ≡ true → IsSome o
       some None e = absurd (false≢true e)
       some (Some f) e = refl
 
-pub unmapped_is : (w : WalkSetup) (passes : List WalkPass) (page : ℕ) → IsWalkSetup w → IsRun w passes → mapped_after w passes page ≡ false
+pub unmapped_is : (w : WalkSetup) (passes : List WalkPass) (page : ℕ) → IsWalkSetup w → IsWalkRun w passes → mapped_after w passes page ≡ false
     → newest (journal_after w passes) page ≡ None
 unmapped_is w passes page h run low =
     none (newest (journal_after w passes) page) (ap (nat_lt 0) (sym ((run_kept w passes h run).agrees page)) ∙ low) where
       above : (f : ℕ) → nat_lt 0 (f + 1) ≡ true
       above f = grind (arith, nat_tests)
 
-      none : (o : Option ℕ) → nat_lt 0 (entry_of o) ≡ false → o ≡ None
+      none : (o : Option ℕ) → nat_lt 0 (entry_number_of o) ≡ false → o ≡ None
       none None e = refl
       none (Some f) e = absurd (false≢true (sym e ∙ above f))

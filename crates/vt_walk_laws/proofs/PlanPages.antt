@@ -16,8 +16,8 @@ use Rattle.vt_walk.specs.Wants.{pages_wanted}
 use Rattle.vt_machine.specs.PlanTypes.batches.Planned.{Planned}
 use Rattle.vt_machine.specs.Orders.{line_pages}
 use Rattle.vt_machine.specs.PageLists.{is_in, each_once}
-use Rattle.vt_walk.specs.Views.{RecencyView, IsTable, free_frames}
-use Rattle.vt_machine.specs.Missing.{is_mapped, missing_from}
+use Rattle.vt_walk.specs.Views.{RecencyView, IsRecencyTable, free_frames}
+use Rattle.vt_machine.specs.Missing.{has_frame, missing_from}
 use Rattle.vt_machine.specs.Batches.{IsSettledTable, is_page, is_read, is_victim}
 use Rattle.vt_walk.specs.Plans.{missing_pages, candidates, planned_at, planned_count, plan_of}
 use Rattle.vt_machine.proofs.ListLemmas.{nat_eq_swap, is_in-append}
@@ -155,7 +155,7 @@ above_zero n m e = grind (arith, nat_tests)
 -- of the pages of lines those stay mapped that were, and those of the plan become so
 pub mapped_by : (v u : RecencyView) (wants : List Wanted) (q x : ℕ) → IsSettledTable v.entries (plan_of v wants q) u.entries
     → is_in (line_pages v.shape (pages_wanted wants)) x ≡ true
-    → is_mapped u.entries x ≡ (is_mapped v.entries x || is_in (batch_pages (plan_of v wants q)) x)
+    → has_frame u.entries x ≡ (has_frame v.entries x || is_in (batch_pages (plan_of v wants q)) x)
 mapped_by v u wants q x settled line = pick (is_read (plan_of v wants q) x) refl where
   any : (b c : Bool) → c ≡ true → true ≡ (b || c)
   any b c e = sym (or_right b c e)
@@ -164,35 +164,35 @@ mapped_by v u wants q x settled line = pick (is_read (plan_of v wants q) x) refl
   none true c e = refl
   none false c e = sym e
 
-  pick : (b : Bool) → is_read (plan_of v wants q) x ≡ b → is_mapped u.entries x ≡ (is_mapped v.entries x || is_in (batch_pages (plan_of v wants q)) x)
+  pick : (b : Bool) → is_read (plan_of v wants q) x ≡ b → has_frame u.entries x ≡ (has_frame v.entries x || is_in (batch_pages (plan_of v wants q)) x)
   pick true is = let e = read_entry (plan_of v wants q) x is in
       above_zero (slice_index u.entries x) e.0.frame (ap (slice_index u.entries) (sym e.2) ∙ settled.mapped e.0 e.1)
-      ∙ any (is_mapped v.entries x) (is_in (batch_pages (plan_of v wants q)) x) (sym (read_is (plan_of v wants q) x) ∙ is)
+      ∙ any (has_frame v.entries x) (is_in (batch_pages (plan_of v wants q)) x) (sym (read_is (plan_of v wants q) x) ∙ is)
   pick false is = ap (nat_lt 0) (settled.kept x is (plan_spares v wants q x line))
-      ∙ none (is_mapped v.entries x) (is_in (batch_pages (plan_of v wants q)) x) (sym (read_is (plan_of v wants q) x) ∙ is)
+      ∙ none (has_frame v.entries x) (is_in (batch_pages (plan_of v wants q)) x) (sym (read_is (plan_of v wants q) x) ∙ is)
 
 -- the front of a wanted page's line, once a plan is loaded
-pub front_after : (v u : RecencyView) (wants : List Wanted) (q p : ℕ) → IsTable v → ArePages v wants → IsSettledTable v.entries (plan_of v wants q) u.entries
+pub front_after : (v u : RecencyView) (wants : List Wanted) (q p : ℕ) → IsRecencyTable v → ArePages v wants → IsSettledTable v.entries (plan_of v wants q) u.entries
     → is_in (pages_wanted wants) p ≡ true
-    → before_lookup v.shape (is_mapped u.entries) p ≡ filter (λ x. not (is_in (batch_pages (plan_of v wants q)) x))
-    (before_lookup v.shape (is_mapped v.entries) p)
+    → before_lookup v.shape (has_frame u.entries) p ≡ filter (λ x. not (is_in (batch_pages (plan_of v wants q)) x))
+    (before_lookup v.shape (has_frame v.entries) p)
 front_after v u wants q p table inside settled wanted =
     let below = level_below v.shape p table.limits (inside p wanted) in
-    front_loaded (is_mapped v.entries) (is_mapped u.entries) (is_in (batch_pages (plan_of v wants q))) (ancestors_of v.shape p)
+    front_loaded (has_frame v.entries) (has_frame u.entries) (is_in (batch_pages (plan_of v wants q))) (ancestors_of v.shape p)
     (λ x there. mapped_by v u wants q x settled (in_wanted_lines v.shape (pages_wanted wants) p x wanted there))
-    (line_steps v.shape (is_mapped v.entries) (is_in (batch_pages (plan_of v wants q))) (levels_of v.shape - 1 - level_of v.shape p) p table.limits
+    (line_steps v.shape (has_frame v.entries) (is_in (batch_pages (plan_of v wants q))) (levels_of v.shape - 1 - level_of v.shape p) p table.limits
     (omega (arith, below)) (inside p wanted)
     (λ x r is. (missing_is v wants x table inside (plan_missing v wants q x is)).step.parent r))
 
-pub left_after : (v u : RecencyView) (wants : List Wanted) (q : ℕ) → IsTable v → ArePages v wants → IsSettledTable v.entries (plan_of v wants q) u.entries
-    → pages_to_load v.shape (is_mapped u.entries) (pages_wanted wants)
-    ≡ filter (λ x. not (is_in (batch_pages (plan_of v wants q)) x)) (pages_to_load v.shape (is_mapped v.entries) (pages_wanted wants))
+pub left_after : (v u : RecencyView) (wants : List Wanted) (q : ℕ) → IsRecencyTable v → ArePages v wants → IsSettledTable v.entries (plan_of v wants q) u.entries
+    → pages_to_load v.shape (has_frame u.entries) (pages_wanted wants)
+    ≡ filter (λ x. not (is_in (batch_pages (plan_of v wants q)) x)) (pages_to_load v.shape (has_frame v.entries) (pages_wanted wants))
 unfolding pages_to_load
 left_after v u wants q table inside settled =
-    ap each_once (flat_map-filter (λ x. not (is_in (batch_pages (plan_of v wants q)) x)) (before_lookup v.shape (is_mapped v.entries))
-    (before_lookup v.shape (is_mapped u.entries)) (pages_wanted wants)
+    ap each_once (flat_map-filter (λ x. not (is_in (batch_pages (plan_of v wants q)) x)) (before_lookup v.shape (has_frame v.entries))
+    (before_lookup v.shape (has_frame u.entries)) (pages_wanted wants)
     (λ p wanted. front_after v u wants q p table inside settled wanted))
-    ∙ each_once-filter (λ x. not (is_in (batch_pages (plan_of v wants q)) x)) (flat_map (before_lookup v.shape (is_mapped v.entries)) (pages_wanted wants))
+    ∙ each_once-filter (λ x. not (is_in (batch_pages (plan_of v wants q)) x)) (flat_map (before_lookup v.shape (has_frame v.entries)) (pages_wanted wants))
 
 in_flat_map : (f : ℕ → List ℕ) (ps : List ℕ) (p x : ℕ) → is_in ps p ≡ true → is_in (f p) x ≡ true → is_in (flat_map f ps) x ≡ true
 in_flat_map f [] p x there h = absurd (false≢true there)
@@ -203,24 +203,24 @@ in_flat_map f (r ∷ ps) p x there h = is_in-append (f r) (flat_map f ps) x ∙ 
   pick false other rest more = or_right (is_in (f r) x) (is_in (flat_map f ps) x) (more rest)
 
 -- the pages of a plan are among those that are to be loaded
-pub plan_to_load : (v : RecencyView) (wants : List Wanted) (q x : ℕ) → IsTable v → ArePages v wants → is_in (batch_pages (plan_of v wants q)) x ≡ true
-    → is_in (pages_to_load v.shape (is_mapped v.entries) (pages_wanted wants)) x ≡ true
+pub plan_to_load : (v : RecencyView) (wants : List Wanted) (q x : ℕ) → IsRecencyTable v → ArePages v wants → is_in (batch_pages (plan_of v wants q)) x ≡ true
+    → is_in (pages_to_load v.shape (has_frame v.entries) (pages_wanted wants)) x ≡ true
 unfolding pages_to_load
 plan_to_load v wants q x table inside there =
     let h = missing_is v wants x table inside (plan_missing v wants q x there) in
-    is_in-each_once (flat_map (before_lookup v.shape (is_mapped v.entries)) (pages_wanted wants)) x
-    ∙ in_flat_map (before_lookup v.shape (is_mapped v.entries)) (pages_wanted wants) h.page x h.wanted h.step.before
+    is_in-each_once (flat_map (before_lookup v.shape (has_frame v.entries)) (pages_wanted wants)) x
+    ∙ in_flat_map (before_lookup v.shape (has_frame v.entries)) (pages_wanted wants) h.page x h.wanted h.step.before
 
 -- an unmapped wanted page has a step, which is missing
-pub step_missing : (v : RecencyView) (wants : List Wanted) (p : ℕ) → is_in (pages_wanted wants) p ≡ true → is_mapped v.entries p ≡ false
-    → is_in (missing_pages v wants) (next_finer_page v.shape (is_mapped v.entries) p) ≡ true
+pub step_missing : (v : RecencyView) (wants : List Wanted) (p : ℕ) → is_in (pages_wanted wants) p ≡ true → has_frame v.entries p ≡ false
+    → is_in (missing_pages v wants) (next_finer_page v.shape (has_frame v.entries) p) ≡ true
 unfolding missing_pages missing_from
 step_missing v wants p wanted low =
-    is_in-each_once (map (next_finer_page v.shape (is_mapped v.entries)) (filter (λ p. not (is_mapped v.entries p)) (pages_wanted wants)))
-    (next_finer_page v.shape (is_mapped v.entries) p)
-    ∙ in_map (next_finer_page v.shape (is_mapped v.entries)) (filter (λ p. not (is_mapped v.entries p)) (pages_wanted wants)) p
-    (is_in-filter (λ p. not (is_mapped v.entries p)) (pages_wanted wants) p
-    ∙ both (is_in (pages_wanted wants) p) (not (is_mapped v.entries p)) wanted (ap not low))
+    is_in-each_once (map (next_finer_page v.shape (has_frame v.entries)) (filter (λ p. not (has_frame v.entries p)) (pages_wanted wants)))
+    (next_finer_page v.shape (has_frame v.entries) p)
+    ∙ in_map (next_finer_page v.shape (has_frame v.entries)) (filter (λ p. not (has_frame v.entries p)) (pages_wanted wants)) p
+    (is_in-filter (λ p. not (has_frame v.entries p)) (pages_wanted wants) p
+    ∙ both (is_in (pages_wanted wants) p) (not (has_frame v.entries p)) wanted (ap not low))
 
 -- a mapped page has nothing before its look-up
 pub front_none : (s : Shape) (m : ℕ → Bool) (p : ℕ) → IsWithinLimits s → p < pages_of s → m p ≡ true → before_lookup s m p ≡ []
@@ -238,17 +238,17 @@ unfolding pages_to_load
 mapped_done s m ps limits all = ap each_once (no_lists (before_lookup s m) ps (λ p there. front_none s m p limits (all p there).0 (all p there).1))
 
 pub none_missing : (v : RecencyView) (wants : List Wanted) (p : ℕ) → missing_pages v wants ≡ [] → is_in (pages_wanted wants) p ≡ true
-    → is_mapped v.entries p ≡ true
-none_missing v wants p none wanted = pick (is_mapped v.entries p) refl where
-  pick : (b : Bool) → is_mapped v.entries p ≡ b → is_mapped v.entries p ≡ true
+    → has_frame v.entries p ≡ true
+none_missing v wants p none wanted = pick (has_frame v.entries p) refl where
+  pick : (b : Bool) → has_frame v.entries p ≡ b → has_frame v.entries p ≡ true
   pick true e = e
-  pick false e = absurd (false≢true (sym (ap (λ (l : List ℕ). is_in l (next_finer_page v.shape (is_mapped v.entries) p)) none) ∙ step_missing v wants p wanted e))
+  pick false e = absurd (false≢true (sym (ap (λ (l : List ℕ). is_in l (next_finer_page v.shape (has_frame v.entries) p)) none) ∙ step_missing v wants p wanted e))
 
 -- where nothing is missing, nothing is to be loaded
-pub missing_done : (v : RecencyView) (wants : List Wanted) → IsTable v → ArePages v wants → missing_pages v wants ≡ []
-    → pages_to_load v.shape (is_mapped v.entries) (pages_wanted wants) ≡ []
+pub missing_done : (v : RecencyView) (wants : List Wanted) → IsRecencyTable v → ArePages v wants → missing_pages v wants ≡ []
+    → pages_to_load v.shape (has_frame v.entries) (pages_wanted wants) ≡ []
 missing_done v wants table inside none =
-    mapped_done v.shape (is_mapped v.entries) (pages_wanted wants) table.limits (λ p there. (inside p there, none_missing v wants p none there))
+    mapped_done v.shape (has_frame v.entries) (pages_wanted wants) table.limits (λ p there. (inside p there, none_missing v wants p none there))
 
 filter_fewer : (t : ℕ → Bool) (xs : List ℕ) → length (filter t xs) ≤ length xs
 filter_fewer t [] = omega arith
@@ -285,22 +285,22 @@ most_least s m (r ∷ ps) n each = max-le (each r (or_left (nat_eq r r) (is_in p
     (most_least s m ps n (λ p there. each p (or_right (nat_eq p r) (is_in ps p) there)))
 
 -- no line's front grows
-pub most_falls : (v u : RecencyView) (wants : List Wanted) (q : ℕ) → IsTable v → ArePages v wants → IsSettledTable v.entries (plan_of v wants q) u.entries
-    → most_before v.shape (is_mapped u.entries) (pages_wanted wants) ≤ most_before v.shape (is_mapped v.entries) (pages_wanted wants)
-most_falls v u wants q table inside settled = most_least v.shape (is_mapped u.entries) (pages_wanted wants)
-    (most_before v.shape (is_mapped v.entries) (pages_wanted wants)) (λ p wanted.
+pub most_falls : (v u : RecencyView) (wants : List Wanted) (q : ℕ) → IsRecencyTable v → ArePages v wants → IsSettledTable v.entries (plan_of v wants q) u.entries
+    → most_before v.shape (has_frame u.entries) (pages_wanted wants) ≤ most_before v.shape (has_frame v.entries) (pages_wanted wants)
+most_falls v u wants q table inside settled = most_least v.shape (has_frame u.entries) (pages_wanted wants)
+    (most_before v.shape (has_frame v.entries) (pages_wanted wants)) (λ p wanted.
     let a = ap (λ (l : List ℕ). length l) (front_after v u wants q p table inside settled wanted) in
-    let b = filter_fewer (λ x. not (is_in (batch_pages (plan_of v wants q)) x)) (before_lookup v.shape (is_mapped v.entries) p) in
-    let c = most_each v.shape (is_mapped v.entries) (pages_wanted wants) p wanted in
-    omega (arith, a, b, c, length-front (is_mapped u.entries) (ancestors_of v.shape p), length-front (is_mapped v.entries) (ancestors_of v.shape p)))
+    let b = filter_fewer (λ x. not (is_in (batch_pages (plan_of v wants q)) x)) (before_lookup v.shape (has_frame v.entries) p) in
+    let c = most_each v.shape (has_frame v.entries) (pages_wanted wants) p wanted in
+    omega (arith, a, b, c, length-front (has_frame u.entries) (ancestors_of v.shape p), length-front (has_frame v.entries) (ancestors_of v.shape p)))
 
 -- where all missing pages are loaded, each front that is not empty has one page fewer
-pub most_less : (v u : RecencyView) (wants : List Wanted) (q : ℕ) → IsTable v → ArePages v wants → IsSettledTable v.entries (plan_of v wants q) u.entries
+pub most_less : (v u : RecencyView) (wants : List Wanted) (q : ℕ) → IsRecencyTable v → ArePages v wants → IsSettledTable v.entries (plan_of v wants q) u.entries
     → length (missing_pages v wants) ≤ length (plan_of v wants q) → 1 ≤ length (plan_of v wants q)
-    → most_before v.shape (is_mapped u.entries) (pages_wanted wants) + 1 ≤ most_before v.shape (is_mapped v.entries) (pages_wanted wants)
+    → most_before v.shape (has_frame u.entries) (pages_wanted wants) + 1 ≤ most_before v.shape (has_frame v.entries) (pages_wanted wants)
 most_less v u wants q table inside settled all some =
-    let n : ℕ = most_before v.shape (is_mapped v.entries) (pages_wanted wants) in
-    let least = most_least v.shape (is_mapped u.entries) (pages_wanted wants) (most_before v.shape (is_mapped v.entries) (pages_wanted wants) - 1) each in
+    let n : ℕ = most_before v.shape (has_frame v.entries) (pages_wanted wants) in
+    let least = most_least v.shape (has_frame u.entries) (pages_wanted wants) (most_before v.shape (has_frame v.entries) (pages_wanted wants) - 1) each in
     omega (arith, least, at_least_one) where
       first_in : (xs : List ℕ) → 1 ≤ length xs → (x : ℕ) × (is_in xs x ≡ true)
       first_in [] h = absurd (omega (arith, h))
@@ -310,39 +310,39 @@ most_less v u wants q table inside settled all some =
       some_in [] x there = absurd (false≢true there)
       some_in (y ∷ xs) x there = omega arith
 
-      at_least_one : 1 ≤ most_before v.shape (is_mapped v.entries) (pages_wanted wants)
+      at_least_one : 1 ≤ most_before v.shape (has_frame v.entries) (pages_wanted wants)
       at_least_one =
           let x = first_in (batch_pages (plan_of v wants q)) (omega (arith, some, length-pages (plan_of v wants q))) in
           let h = missing_is v wants x.0 table inside (plan_missing v wants q x.0 x.1) in
-          let a = some_in (before_lookup v.shape (is_mapped v.entries) h.page) x.0 h.step.before in
-          let c = most_each v.shape (is_mapped v.entries) (pages_wanted wants) h.page h.wanted in
-          omega (arith, a, c, length-front (is_mapped v.entries) (ancestors_of v.shape h.page))
+          let a = some_in (before_lookup v.shape (has_frame v.entries) h.page) x.0 h.step.before in
+          let c = most_each v.shape (has_frame v.entries) (pages_wanted wants) h.page h.wanted in
+          omega (arith, a, c, length-front (has_frame v.entries) (ancestors_of v.shape h.page))
 
-      loaded : (p : ℕ) → is_in (pages_wanted wants) p ≡ true → is_mapped v.entries p ≡ false
-          → length (filter (λ x. not (is_in (batch_pages (plan_of v wants q)) x)) (before_lookup v.shape (is_mapped v.entries) p)) + 1 ≤ length
-          (before_lookup v.shape (is_mapped v.entries) p)
+      loaded : (p : ℕ) → is_in (pages_wanted wants) p ≡ true → has_frame v.entries p ≡ false
+          → length (filter (λ x. not (is_in (batch_pages (plan_of v wants q)) x)) (before_lookup v.shape (has_frame v.entries) p)) + 1 ≤ length
+          (before_lookup v.shape (has_frame v.entries) p)
       loaded p wanted low =
           let below = level_below v.shape p table.limits (inside p wanted) in
-          let h = step_is v.shape (is_mapped v.entries) (levels_of v.shape - 1 - level_of v.shape p) p table.limits (omega (arith, below))
+          let h = step_is v.shape (has_frame v.entries) (levels_of v.shape - 1 - level_of v.shape p) p table.limits (omega (arith, below))
           (inside p wanted) low in
-          filter_less (λ x. not (is_in (batch_pages (plan_of v wants q)) x)) (before_lookup v.shape (is_mapped v.entries) p)
-          (next_finer_page v.shape (is_mapped v.entries) p) h.before
-          (ap not (ap (λ (l : List ℕ). is_in l (next_finer_page v.shape (is_mapped v.entries) p)) (plan_all v wants q all) ∙ step_missing v wants p wanted low))
+          filter_less (λ x. not (is_in (batch_pages (plan_of v wants q)) x)) (before_lookup v.shape (has_frame v.entries) p)
+          (next_finer_page v.shape (has_frame v.entries) p) h.before
+          (ap not (ap (λ (l : List ℕ). is_in l (next_finer_page v.shape (has_frame v.entries) p)) (plan_all v wants q all) ∙ step_missing v wants p wanted low))
 
       each : (p : ℕ) → is_in (pages_wanted wants) p ≡ true
-          → pages_before v.shape (is_mapped u.entries) p ≤ most_before v.shape (is_mapped v.entries) (pages_wanted wants) - 1
-      each p wanted = pick (is_mapped v.entries p) refl where
-        a : length (before_lookup v.shape (is_mapped u.entries) p) ≡ length
-            (filter (λ x. not (is_in (batch_pages (plan_of v wants q)) x)) (before_lookup v.shape (is_mapped v.entries) p))
+          → pages_before v.shape (has_frame u.entries) p ≤ most_before v.shape (has_frame v.entries) (pages_wanted wants) - 1
+      each p wanted = pick (has_frame v.entries p) refl where
+        a : length (before_lookup v.shape (has_frame u.entries) p) ≡ length
+            (filter (λ x. not (is_in (batch_pages (plan_of v wants q)) x)) (before_lookup v.shape (has_frame v.entries) p))
         a = ap (λ (l : List ℕ). length l) (front_after v u wants q p table inside settled wanted)
 
-        pick : (b : Bool) → is_mapped v.entries p ≡ b
-            → pages_before v.shape (is_mapped u.entries) p ≤ most_before v.shape (is_mapped v.entries) (pages_wanted wants) - 1
+        pick : (b : Bool) → has_frame v.entries p ≡ b
+            → pages_before v.shape (has_frame u.entries) p ≤ most_before v.shape (has_frame v.entries) (pages_wanted wants) - 1
         pick true high =
-            let none = ap (λ (l : List ℕ). length l) (front_none v.shape (is_mapped v.entries) p table.limits (inside p wanted) high) in
-            let b = filter_fewer (λ x. not (is_in (batch_pages (plan_of v wants q)) x)) (before_lookup v.shape (is_mapped v.entries) p) in
-            omega (arith, a, none, b, length-front (is_mapped u.entries) (ancestors_of v.shape p))
+            let none = ap (λ (l : List ℕ). length l) (front_none v.shape (has_frame v.entries) p table.limits (inside p wanted) high) in
+            let b = filter_fewer (λ x. not (is_in (batch_pages (plan_of v wants q)) x)) (before_lookup v.shape (has_frame v.entries) p) in
+            omega (arith, a, none, b, length-front (has_frame u.entries) (ancestors_of v.shape p))
         pick false low =
             let b = loaded p wanted low in
-            let c = most_each v.shape (is_mapped v.entries) (pages_wanted wants) p wanted in
-            omega (arith, a, b, c, length-front (is_mapped u.entries) (ancestors_of v.shape p), length-front (is_mapped v.entries) (ancestors_of v.shape p))
+            let c = most_each v.shape (has_frame v.entries) (pages_wanted wants) p wanted in
+            omega (arith, a, b, c, length-front (has_frame u.entries) (ancestors_of v.shape p), length-front (has_frame v.entries) (ancestors_of v.shape p))

@@ -4,7 +4,7 @@ use Rattle.vt_machine.specs.Stamps.{Stamps, no_stamps, AreAfter, AreBefore, IsBy
 use Rattle.vt_machine.proofs.StampLemmas.{order_by_stamps, still_before}
 use Rattle.vt_machine.proofs.StampRules.{after_some, after_one, none_before, first_by_stamps}
 use Rattle.vt_walk.specs.Fits.{WalkSetup}
-use Rattle.vt_walk.specs.Runs.{WalkPass, IsWalkSetup, recency_after, IsRun}
+use Rattle.vt_walk.specs.Runs.{WalkPass, IsWalkSetup, recency_after, IsWalkRun}
 use Rattle.vt_walk_laws.specs.Stamped.{stamping, AreStampsOf}
 use Rattle.vt_walk.proofs.Running.{run_kept, batch_is_lawful, wants_inside}
 
@@ -23,7 +23,7 @@ record AreInOrder (w : WalkSetup) (passes : List WalkPass) (stamps : Stamps) : T
   pub before : AreBefore stamps (length passes + 1)
   pub order : IsByStamps stamps (recency_after w passes).order
 
-stamps_order : (w : WalkSetup) (passes : List WalkPass) (stamps : Stamps) → IsWalkSetup w → IsRun w passes → AreStampsOf passes stamps
+stamps_order : (w : WalkSetup) (passes : List WalkPass) (stamps : Stamps) → IsWalkSetup w → IsWalkRun w passes → AreStampsOf passes stamps
     → AreInOrder w passes stamps
 stamps_order w [] stamps h run are = record {
   before = subst (λ (s : Stamps). AreBefore s 1) (sym are) (none_before 1);
@@ -46,6 +46,6 @@ stamps_order w (p ∷ passes) stamps h run are =
       });
     }
 
-pub order_is_stamped : (w : WalkSetup) (passes : List WalkPass) (stamps : Stamps) → IsWalkSetup w → IsRun w passes → AreStampsOf passes stamps
+pub order_is_stamped : (w : WalkSetup) (passes : List WalkPass) (stamps : Stamps) → IsWalkSetup w → IsWalkRun w passes → AreStampsOf passes stamps
     → IsByStamps stamps (recency_after w passes).order
 order_is_stamped w passes stamps h run are = (stamps_order w passes stamps h run are).order

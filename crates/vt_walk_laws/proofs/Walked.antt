@@ -17,7 +17,7 @@ use Rattle.vt_replay.specs.Pictures.{expected_picture, expected_pictures}
 use Rattle.vt_machine.specs.JournalTypes.changes.Change.{Change}
 use Rattle.vt_machine.specs.JournalTypes.changes.RowLine.{RowLine}
 use Rattle.vt_machine.specs.Changes.{Table}
-use Rattle.vt_replay.specs.JournalFlaws.{IsLawful}
+use Rattle.vt_replay.specs.JournalFlaws.{IsLawfulJournal}
 use Rattle.vt_machine.specs.JournalText.{Pass, Content, content_changes, journal_text}
 use Rattle.vt_machine.proofs.Contents.{content_unique}
 use Rattle.vt_machine.specs.Replays.{IsReplayOf}
@@ -25,7 +25,7 @@ use Rattle.vt_machine.specs.Scenes.{Scene}
 use Rattle.vt_walk.specs.DrawnBy.{PictureDrawn}
 use Rattle.vt_walk.specs.Fits.{WalkSetup}
 use Rattle.vt_walk.specs.Folders.{with_pictures, with_walk, IsApart}
-use Rattle.vt_walk.specs.Runs.{WalkPass, IsWalkSetup, IsRun, IsWhole, IsPictureAfter, journal_after, told_of, passes_told, run_content, run_text}
+use Rattle.vt_walk.specs.Runs.{WalkPass, IsWalkSetup, IsWalkRun, IsWhole, IsPictureAfter, journal_after, content_pass, content_passes, run_content, run_text}
 use Rattle.vt_walk.specs.Shown.{last_rows, IsRunPicture}
 use Rattle.vt_walk.specs.Standing.{HasReached, Stands, Finished}
 use Rattle.vt_walk.specs.States.{WalkState}
@@ -37,7 +37,7 @@ use Rattle.vt_walk.proofs.Agreeing.{root_last}
 use Rattle.vt_walk.proofs.Apart.{other_name}
 use Rattle.vt_walk.specs.Written.{IsWritten, AreWritten}
 use Rattle.vt_walk.proofs.Showing.{rows_after}
-use Rattle.vt_walk.proofs.Telling.{told_changes, run_is_lawful}
+use Rattle.vt_walk.proofs.RunContents.{spelled_changes, run_is_lawful}
 use Rattle.vt_replay.specs.Outcomes.{IsReplayable}
 use Rattle.vt_replay.specs.Trying.{Under}
 use Rattle.vt_replay.specs.Replayed.{replayed_rows, lines_after, last_lines, pictures_after, pictures_of, replay_file, expected_replay}
@@ -56,52 +56,52 @@ count_more count [] p = refl
 count_more count (q ∷ passes) p = count_more (q.picture + 1) passes p
 
 -- the rows of the last pass of a picture, in the run and in its journal
-pub last_told : (w : WalkSetup) (run : List WalkPass) (picture : ℕ) → last_lines (passes_told w run) picture ≡ last_rows run picture
-last_told w [] picture = refl
-last_told w (p ∷ run) picture =
-    lines_more [] (passes_told w run) (told_of w run p) picture
-    ∙ ap (λ (rows : List RowLine). if p.picture == picture then p.rows else rows) (last_told w run picture)
+pub last_content : (w : WalkSetup) (run : List WalkPass) (picture : ℕ) → last_lines (content_passes w run) picture ≡ last_rows run picture
+last_content w [] picture = refl
+last_content w (p ∷ run) picture =
+    lines_more [] (content_passes w run) (content_pass w run p) picture
+    ∙ ap (λ (rows : List RowLine). if p.picture == picture then p.rows else rows) (last_content w run picture)
 
-pub count_told : (w : WalkSetup) (p : WalkPass) (run : List WalkPass) → pictures_of (passes_told w (p ∷ run)) ≡ p.picture + 1
-count_told w p run = count_more 0 (passes_told w run) (told_of w run p)
+pub count_content : (w : WalkSetup) (p : WalkPass) (run : List WalkPass) → pictures_of (content_passes w (p ∷ run)) ≡ p.picture + 1
+count_content w p run = count_more 0 (content_passes w run) (content_pass w run p)
 
-pub count_whole : (w : WalkSetup) (run : List WalkPass) → IsWhole w run → pictures_of (passes_told w run) ≡ w.pictures
+pub count_whole : (w : WalkSetup) (run : List WalkPass) → IsWhole w run → pictures_of (content_passes w run) ≡ w.pictures
 count_whole w [] whole = sym whole
-count_whole w (p ∷ run) whole = count_told w p run ∙ whole.2
+count_whole w (p ∷ run) whole = count_content w p run ∙ whole.2
 
 -- a journal tells of each picture before the one that its run has reached
-reached_told : (w : WalkSetup) (run : List WalkPass) (picture : ℕ) → HasReached w run picture → picture ≤ pictures_of (passes_told w run)
-reached_told w [] picture reached = omega (arith, reached)
-reached_told w (p ∷ run) picture reached = let count = count_told w p run in elim reached [
+reached_content : (w : WalkSetup) (run : List WalkPass) (picture : ℕ) → HasReached w run picture → picture ≤ pictures_of (content_passes w run)
+reached_content w [] picture reached = omega (arith, reached)
+reached_content w (p ∷ run) picture reached = let count = count_content w p run in elim reached [
   | inl same ↦ omega (arith, same, count)
   | inr next ↦ omega (arith, next.1, count)
 ]
 
 -- the last pass of a picture to which a run has come has a row for each row of the picture
-rows_full : (w : WalkSetup) (run : List WalkPass) (picture : ℕ) → IsRun w run → picture < pictures_of (passes_told w run)
+rows_full : (w : WalkSetup) (run : List WalkPass) (picture : ℕ) → IsWalkRun w run → picture < pictures_of (content_passes w run)
     → length (last_rows run picture) ≡ w.height
 rows_full w [] picture run low = absurd (omega (arith, low))
 rows_full w (p ∷ []) picture run low = pick (p.picture == picture) refl where
   pick : (b : Bool) → (p.picture == picture) ≡ b → length (last_rows (p ∷ []) picture) ≡ w.height
   pick true same = ap length (rows_after true p [] picture same) ∙ run.1.in_order.of_picture.count
   pick false other =
-      let count = count_told w p [] in
+      let count = count_content w p [] in
       let first = run.1.step in
       let same : p.picture ≡ picture = omega (arith, low, count, first) in
       absurd (grind (arith, same, other))
 rows_full w (p ∷ q ∷ passes) picture run low = pick (p.picture == picture) refl (turned run.1.step.1) (rows_full w (q ∷ passes) picture run.0) where
-  count : pictures_of (passes_told w (p ∷ q ∷ passes)) ≡ p.picture + 1
-  count = count_told w p (q ∷ passes)
+  count : pictures_of (content_passes w (p ∷ q ∷ passes)) ≡ p.picture + 1
+  count = count_content w p (q ∷ passes)
 
-  before : pictures_of (passes_told w (q ∷ passes)) ≡ q.picture + 1
-  before = count_told w q passes
+  before : pictures_of (content_passes w (q ∷ passes)) ≡ q.picture + 1
+  before = count_content w q passes
 
   turned : {F : Type 0} → IsPictureAfter F q.picture p.picture → p.picture ≤ q.picture + 1
   turned (inl next) = omega (arith, next.1)
   turned (inr same) = omega (arith, same.1)
 
   pick : (b : Bool) → (p.picture == picture) ≡ b → p.picture ≤ q.picture + 1
-      → (picture < pictures_of (passes_told w (q ∷ passes)) → length (last_rows (q ∷ passes) picture) ≡ w.height)
+      → (picture < pictures_of (content_passes w (q ∷ passes)) → length (last_rows (q ∷ passes) picture) ≡ w.height)
       → length (last_rows (p ∷ q ∷ passes) picture) ≡ w.height
   pick true same most earlier = ap length (rows_after true p (q ∷ passes) picture same) ∙ run.1.in_order.of_picture.count
   pick false other most earlier =
@@ -110,15 +110,15 @@ rows_full w (p ∷ q ∷ passes) picture run low = pick (p.picture == picture) r
 
 -- what was written of a picture is the file of the replay of the run's journal
 pub written_again : (under : Under) (drawn : PictureDrawn) (g : WalkGiven) (b : List ℕ) (run : List WalkPass) (picture : ℕ) (bytes : List ℕ)
-    → IsOfStore under g b → IsRun g.setup run → picture < pictures_of (passes_told g.setup run) → IsWritten drawn g run picture bytes
-    → bytes ≡ replay_file under (stored b) g.scene (content_changes g.scene.shape (run_content g.setup run)) (passes_told g.setup run) picture
+    → IsOfStore under g b → IsWalkRun g.setup run → picture < pictures_of (content_passes g.setup run) → IsWritten drawn g run picture bytes
+    → bytes ≡ replay_file under (stored b) g.scene (content_changes g.scene.shape (run_content g.setup run)) (content_passes g.setup run) picture
 unfolding replay_file
 written_again under drawn g b run picture bytes store is_run low written =
     let width = g.scene.path.width in
     let height = g.scene.path.height in
     let rows = last_rows run picture in
     let shown : IsRunPicture g.setup run g.scene.depth width (g.draws.shows g.scene b) picture written.samples =
-    subst (λ (o : Option (List ℕ)). IfSome o (λ bs. IsRunPicture g.setup run g.scene.depth width (g.draws.shows g.scene bs) picture written.samples)) store.told
+    subst (λ (o : Option (List ℕ)). IfSome o (λ bs. IsRunPicture g.setup run g.scene.depth width (g.draws.shows g.scene bs) picture written.samples)) store.known
     written.replay in
     let of_store : IsRunPicture g.setup run g.scene.depth width (under (stored b) g.scene) picture written.samples =
     subst (λ (pixel : Table → ℕ → ℕ → ℕ → List ℕ). IsRunPicture g.setup run g.scene.depth width pixel picture written.samples) store.shows shown in
@@ -129,20 +129,20 @@ written_again under drawn g b run picture bytes store is_run low written =
     let one = replay_is_one under (stored b) g.scene (journal_after g.setup run) rows picture written.samples
     (rows_full g.setup run picture is_run low ∙ store.height) replayed in
     let changes : journal_after g.setup run ≡ content_changes g.scene.shape (run_content g.setup run) =
-    sym (told_changes g.setup run) ∙ ap (λ (s : Shape). content_changes s (run_content g.setup run)) store.shape in
+    sym (spelled_changes g.setup run) ∙ ap (λ (s : Shape). content_changes s (run_content g.setup run)) store.shape in
     written.encoded ∙ ap (λ (samples : List ℕ). picture_bytes g.scene.depth width height samples)
     (one ∙ ap (λ (cs : List Change). replayed_rows under (stored b) g.scene cs rows picture height) changes
     ∙ ap (λ (ls : List RowLine). replayed_rows under (stored b) g.scene (content_changes g.scene.shape (run_content g.setup run)) ls picture height)
-    (sym (last_told g.setup run picture)))
+    (sym (last_content g.setup run picture)))
 
 -- the pictures that were written, by their numbers
 named_again : (under : Under) (drawn : PictureDrawn) (g : WalkGiven) (b prefix : List ℕ) (run : List WalkPass) (pictures : List (List ℕ))
-    → IsOfStore under g b → IsRun g.setup run → length pictures ≤ pictures_of (passes_told g.setup run) → AreWritten drawn g run pictures
-    → expected_pictures prefix (replay_file under (stored b) g.scene (content_changes g.scene.shape (run_content g.setup run)) (passes_told g.setup run)) (length pictures)
+    → IsOfStore under g b → IsWalkRun g.setup run → length pictures ≤ pictures_of (content_passes g.setup run) → AreWritten drawn g run pictures
+    → expected_pictures prefix (replay_file under (stored b) g.scene (content_changes g.scene.shape (run_content g.setup run)) (content_passes g.setup run)) (length pictures)
     ≡ named_pictures prefix pictures
 named_again under drawn g b prefix run [] store is_run most written = refl
 named_again under drawn g b prefix run (bytes ∷ pictures) store is_run most written =
-    let file : ℕ → List ℕ = replay_file under (stored b) g.scene (content_changes g.scene.shape (run_content g.setup run)) (passes_told g.setup run) in
+    let file : ℕ → List ℕ = replay_file under (stored b) g.scene (content_changes g.scene.shape (run_content g.setup run)) (content_passes g.setup run) in
     let more : length (bytes ∷ pictures) ≡ length pictures + 1 = omega arith in
     ap (expected_pictures prefix file) more
     ∙ map-range_with_len_more (expected_picture prefix file) 0 (length pictures) (length pictures) (omega arith)
@@ -153,24 +153,24 @@ named_again under drawn g b prefix run (bytes ∷ pictures) store is_run most wr
 
 -- the files of the replay of a whole run are its pictures
 expected_again : (under : Under) (drawn : PictureDrawn) (g : WalkGiven) (b prefix : List ℕ) (run : List WalkPass) (pictures : List (List ℕ))
-    → IsOfStore under g b → IsRun g.setup run → IsWhole g.setup run → length pictures ≡ g.setup.pictures → AreWritten drawn g run pictures
+    → IsOfStore under g b → IsWalkRun g.setup run → IsWhole g.setup run → length pictures ≡ g.setup.pictures → AreWritten drawn g run pictures
     → expected_replay under g.scene.shape g.scene.depth b g.scene.path prefix (run_content g.setup run) ≡ named_pictures prefix pictures
 expected_again under drawn g b prefix run pictures store is_run whole all written =
-    let count : pictures_of (passes_told g.setup run) ≡ length pictures = count_whole g.setup run whole ∙ sym all in
-    ap (expected_pictures prefix (replay_file under (stored b) g.scene (content_changes g.scene.shape (run_content g.setup run)) (passes_told g.setup run))) count
+    let count : pictures_of (content_passes g.setup run) ≡ length pictures = count_whole g.setup run whole ∙ sym all in
+    ap (expected_pictures prefix (replay_file under (stored b) g.scene (content_changes g.scene.shape (run_content g.setup run)) (content_passes g.setup run))) count
     ∙ named_again under drawn g b prefix run pictures store is_run (omega (arith, count)) written
 
-run_lawful : (under : Under) (g : WalkGiven) (b : List ℕ) (run : List WalkPass) → IsOfStore under g b → IsWalkSetup g.setup → IsRun g.setup run
-    → IsLawful g.scene.shape g.scene.path.height (run_content g.setup run)
+run_lawful : (under : Under) (g : WalkGiven) (b : List ℕ) (run : List WalkPass) → IsOfStore under g b → IsWalkSetup g.setup → IsWalkRun g.setup run
+    → IsLawfulJournal g.scene.shape g.scene.path.height (run_content g.setup run)
 run_lawful under g b run store h is_run =
-    subst (λ (n : ℕ). IsLawful g.scene.shape n (run_content g.setup run)) store.height
-    (subst (λ (s : Shape). IsLawful s g.setup.height (run_content g.setup run)) store.shape (run_is_lawful g.setup run h is_run))
+    subst (λ (n : ℕ). IsLawfulJournal g.scene.shape n (run_content g.setup run)) store.height
+    (subst (λ (s : Shape). IsLawfulJournal s g.setup.height (run_content g.setup run)) store.shape (run_is_lawful g.setup run h is_run))
 
 run_spelled : (under : Under) (g : WalkGiven) (b : List ℕ) (run : List WalkPass) → IsOfStore under g b → run_text g.setup run ≡ journal_text g.scene.shape (run_content g.setup run)
 run_spelled under g b run store = ap (λ (s : Shape). journal_text s (run_content g.setup run)) store.shape
 
 -- a content that is read from the journal's text of a run is what the run told
-content_is : (under : Under) (g : WalkGiven) (b : List ℕ) (run : List WalkPass) (content : Content) → IsOfStore under g b → IsWalkSetup g.setup → IsRun g.setup run
+content_is : (under : Under) (g : WalkGiven) (b : List ℕ) (run : List WalkPass) (content : Content) → IsOfStore under g b → IsWalkSetup g.setup → IsWalkRun g.setup run
     → IsReplayable g.scene.shape g.scene.path (run_text g.setup run) content → run_content g.setup run ≡ content
 content_is under g b run content store h is_run read =
     let tile : 1 ≤ g.scene.shape.tile = subst (λ (s : Shape). 1 ≤ s.tile) store.shape (omega (arith, h.limits.least_tile)) in
@@ -184,24 +184,24 @@ one_of [] x y (suc i) is = cc
 one_of (z ∷ xs) x y zero is = inl is
 one_of (z ∷ xs) x y (suc i) is = one_of xs x y i is
 
-told_inside : (w : WalkSetup) (run : List WalkPass) → IsRun w run → (i : ℕ) (pass : Pass) → slice_get (passes_told w run) i ≡ Some pass
+content_inside : (w : WalkSetup) (run : List WalkPass) → IsWalkRun w run → (i : ℕ) (pass : Pass) → slice_get (content_passes w run) i ≡ Some pass
     → pass.picture < w.pictures
-told_inside w [] is_run i pass is = cc
-told_inside w (p ∷ run) is_run i pass is = elim (one_of (passes_told w run) (told_of w run p) pass i is) [
-  | inl before ↦ told_inside w run is_run.0 i pass before
+content_inside w [] is_run i pass is = cc
+content_inside w (p ∷ run) is_run i pass is = elim (one_of (content_passes w run) (content_pass w run p) pass i is) [
+  | inl before ↦ content_inside w run is_run.0 i pass before
   | inr last ↦ subst (λ (q : Pass). q.picture < w.pictures) last is_run.1.of_path
 ]
 
 -- a replay of the journal's text of a run is not refused
-pub run_replayable : (under : Under) (g : WalkGiven) (b : List ℕ) (run : List WalkPass) → IsOfStore under g b → IsWalkSetup g.setup → IsRun g.setup run
+pub run_replayable : (under : Under) (g : WalkGiven) (b : List ℕ) (run : List WalkPass) → IsOfStore under g b → IsWalkSetup g.setup → IsWalkRun g.setup run
     → IsReplayable g.scene.shape g.scene.path (run_text g.setup run) (run_content g.setup run)
 run_replayable under g b run store h is_run = record {
   lawful = run_lawful under g b run store h is_run;
   spelled = run_spelled under g b run store;
-  in_path = λ i pass is. subst (λ (n : ℕ). pass.picture < n) store.pictures (told_inside g.setup run is_run i pass is);
+  in_path = λ i pass is. subst (λ (n : ℕ). pass.picture < n) store.pictures (content_inside g.setup run is_run i pass is);
 }
 
-pub count_read : (under : Under) (g : WalkGiven) (b : List ℕ) (run : List WalkPass) (content : Content) → IsOfStore under g b → IsWalkSetup g.setup → IsRun g.setup run
+pub count_read : (under : Under) (g : WalkGiven) (b : List ℕ) (run : List WalkPass) (content : Content) → IsOfStore under g b → IsWalkSetup g.setup → IsWalkRun g.setup run
     → IsWhole g.setup run
     → IsReplayable g.scene.shape g.scene.path (run_text g.setup run) content → pictures_of content.passes ≡ g.setup.pictures
 count_read under g b run content store h is_run whole read =
@@ -209,7 +209,7 @@ count_read under g b run content store h is_run whole read =
 
 pub expected_read : (under : Under) (drawn : PictureDrawn) (g : WalkGiven) (b prefix : List ℕ) (run : List WalkPass) (pictures : List (List ℕ))
     (content : Content)
-    → IsOfStore under g b → IsWalkSetup g.setup → IsRun g.setup run → IsWhole g.setup run → length pictures ≡ g.setup.pictures → AreWritten drawn g run pictures
+    → IsOfStore under g b → IsWalkSetup g.setup → IsWalkRun g.setup run → IsWhole g.setup run → length pictures ≡ g.setup.pictures → AreWritten drawn g run pictures
     → IsReplayable g.scene.shape g.scene.path (run_text g.setup run) content
     → expected_replay under g.scene.shape g.scene.depth b g.scene.path prefix content ≡ named_pictures prefix pictures
 expected_read under drawn g b prefix run pictures content store h is_run whole all written read =
@@ -271,10 +271,10 @@ stand_again names text pictures before apart = fun_ext (λ q. pick q (held_after
       ∙ sym (ap (λ (b : Bool). if b then Some text else with_pictures names.prefix pictures before q) (other q h.0 h.1 (bytes_eq q names.journal) refl))
   pick q (inr h) = h walked
 
-told_again : (names : WalkNames) (text : List ℕ) (pictures : List (List ℕ)) (expected : List ExpectedFile) (first last : Option Files) → IsApart names
+known_again : (names : WalkNames) (text : List ℕ) (pictures : List (List ℕ)) (expected : List ExpectedFile) (first last : Option Files) → IsApart names
     → expected ≡ named_pictures names.prefix pictures → last ≡ option_map (with_walk names text pictures) first → option_map (with_files expected) last ≡ last
-told_again names text pictures expected None last apart is left = rw left refl
-told_again names text pictures expected (Some files) last apart is left =
+known_again names text pictures expected None last apart is left = rw left refl
+known_again names text pictures expected (Some files) last apart is left =
     ap (λ (o : Option Files). option_map (with_files expected) o) left
     ∙ ap (λ (fs : List ExpectedFile). Some (with_files fs (with_walk names text pictures files))) is
     ∙ ap Some (named_stand names.prefix pictures (with_walk names text pictures files) ∙ stand_again names text pictures files apart)
@@ -285,7 +285,7 @@ pub left_again : (under : Under) (drawn : PictureDrawn) (g : WalkGiven) (b : Lis
     → IsOfStore under g b → IsWalkSetup g.setup → (walk : Finished drawn g first last) → IsReplayable g.scene.shape g.scene.path (run_text g.setup walk.run) content
     → IsApart g.names → option_map (with_files (expected_replay under g.scene.shape g.scene.depth b g.scene.path g.names.prefix content)) last.files ≡ last.files
 left_again under drawn g b first last content store h walk read apart =
-    told_again g.names (run_text g.setup walk.run) walk.pictures (expected_replay under g.scene.shape g.scene.depth b g.scene.path g.names.prefix content)
+    known_again g.names (run_text g.setup walk.run) walk.pictures (expected_replay under g.scene.shape g.scene.depth b g.scene.path g.names.prefix content)
     first.files last.files apart
     (expected_read under drawn g b g.names.prefix walk.run walk.pictures content store h walk.is_run walk.whole walk.all walk.written read) (walk.files apart)
 
@@ -293,10 +293,10 @@ left_again under drawn g b first last content store h walk read apart =
 pub standing_again : (under : Under) (drawn : PictureDrawn) (g : WalkGiven) (b prefix : List ℕ) (run : List WalkPass) (pictures : List (List ℕ))
     (first now : WalkState)
     → IsOfStore under g b → Stands drawn g run pictures first now
-    → expected_pictures prefix (replay_file under (stored b) g.scene (content_changes g.scene.shape (run_content g.setup run)) (passes_told g.setup run)) (length pictures)
+    → expected_pictures prefix (replay_file under (stored b) g.scene (content_changes g.scene.shape (run_content g.setup run)) (content_passes g.setup run)) (length pictures)
     ≡ named_pictures prefix pictures
 standing_again under drawn g b prefix run pictures first now store stands =
-    named_again under drawn g b prefix run pictures store stands.is_run (reached_told g.setup run (length pictures) stands.reached) stands.written
+    named_again under drawn g b prefix run pictures store stands.is_run (reached_content g.setup run (length pictures) stands.reached) stands.written
 
 -- some page is pinned where some level is
 some_pinned : (s : Shape) (n : ℕ) → IsWithinLimits s → 1 ≤ n → 1 ≤ pinned_of s n

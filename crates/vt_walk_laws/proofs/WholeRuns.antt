@@ -5,12 +5,12 @@ use Rattle.vt_walk.specs.FeedbackTypes.Wanted.{Wanted}
 use Rattle.vt_walk.specs.Wants.{IsWants}
 use Rattle.vt_machine.specs.PlanTypes.batches.Planned.{Planned}
 use Rattle.vt_walk.specs.Views.{RecencyView, touched}
-use Rattle.vt_machine.specs.Batches.{IsSettled}
+use Rattle.vt_machine.specs.Batches.{IsSettledByReads}
 use Rattle.vt_walk.specs.Plans.{plan_of}
 use Rattle.vt_machine.specs.Outcomes.{lost_count}
 use Rattle.vt_walk.specs.WalkDecisionsTypes.mode.Mode.TheVariants.{Settled}
 use Rattle.vt_walk.specs.Fits.{WalkSetup}
-use Rattle.vt_walk.specs.Runs.{WalkPass, recency_after, plan_after, planned_in, Finishes, IsFinished, IsPictureAfter, IsStepOf, IsNextPass, IsRun, IsWhole}
+use Rattle.vt_walk.specs.Runs.{WalkPass, recency_after, plan_after, planned_in, Finishes, IsFinished, IsPictureAfter, IsStepOf, IsNextPass, IsWalkRun, IsWhole}
 use Rattle.vt_walk.specs.Logs.{reads_of}
 use Rattle.vt_walk.proofs.Finishing.{wants_one}
 use Rattle.vt_walk.proofs.Settling.{settled_one}
@@ -59,9 +59,9 @@ alike_more w p q a b h x y none none_too = record {
 
   settled : p.settled ≡ q.settled
   settled = settled_one (recency_after w a) p.settled q.settled p.batch
-      (subst (λ (r : List Planned). IsSettled (recency_after w a) r p.settled) (read_all p.batch p.losses x.outcome.told none) x.settles)
-      (subst (λ (v : RecencyView). IsSettled v p.batch q.settled) (sym h.recency)
-      (subst (λ (r : List Planned). IsSettled (recency_after w b) r q.settled) (read_all q.batch q.losses y.outcome.told none_too ∙ sym batch) y.settles))
+      (subst (λ (r : List Planned). IsSettledByReads (recency_after w a) r p.settled) (read_all p.batch p.losses x.outcome.reported none) x.settles)
+      (subst (λ (v : RecencyView). IsSettledByReads v p.batch q.settled) (sym h.recency)
+      (subst (λ (r : List Planned). IsSettledByReads (recency_after w b) r q.settled) (read_all q.batch q.losses y.outcome.reported none_too ∙ sym batch) y.settles))
 
   recency : recency_after w (p ∷ a) ≡ recency_after w (q ∷ b)
   recency = ap (λ (v : RecencyView). touched v p.wants) settled ∙ ap (λ (ws : List Wanted). touched q.settled ws) wants
@@ -77,7 +77,7 @@ alike_more w p q a b h x y none none_too = record {
       (subst (λ (l : List Planned). Finishes w.mode q.batch l) (sym plan) f)
 
 -- as many passes of two runs are alike
-alike : (w : WalkSetup) (a b : List WalkPass) → w.mode ≡ Settled → IsRun w a → IsRun w b → LostNone a → LostNone b → length a ≡ length b → AreAlike w a b
+alike : (w : WalkSetup) (a b : List WalkPass) → w.mode ≡ Settled → IsWalkRun w a → IsWalkRun w b → LostNone a → LostNone b → length a ≡ length b → AreAlike w a b
 alike w [] [] mode x y none none_too count = record { recency = refl; plan = refl; planned = refl; step = λ m n s t. s ∙ sym t }
 alike w [] (q ∷ b) mode x y none none_too count = absurd (omega (arith, count))
 alike w (p ∷ a) [] mode x y none none_too count = absurd (omega (arith, count))
@@ -92,17 +92,17 @@ whole_step w [] whole = whole
 whole_step w (p ∷ a) whole = (whole.0, inl (whole.1, sym whole.2))
 
 -- the first so many passes of a run, and the one after them
-front : (w : WalkSetup) (b : List WalkPass) (n : ℕ) → IsRun w b → n < length b
-    → (q : WalkPass) × (rest : List WalkPass) × IsRun w (q ∷ rest) × (length rest ≡ n)
+front : (w : WalkSetup) (b : List WalkPass) (n : ℕ) → IsWalkRun w b → n < length b
+    → (q : WalkPass) × (rest : List WalkPass) × IsWalkRun w (q ∷ rest) × (length rest ≡ n)
 front w [] n run below = absurd (omega (arith, below))
 front w (q ∷ b) n run below = pick (cases_lt n (length b)) (front w b n run.0) where
-  pick : (n < length b) ⊎ (length b ≤ n) → (n < length b → (q : WalkPass) × (rest : List WalkPass) × IsRun w (q ∷ rest) × (length rest ≡ n))
-      → (q : WalkPass) × (rest : List WalkPass) × IsRun w (q ∷ rest) × (length rest ≡ n)
+  pick : (n < length b) ⊎ (length b ≤ n) → (n < length b → (q : WalkPass) × (rest : List WalkPass) × IsWalkRun w (q ∷ rest) × (length rest ≡ n))
+      → (q : WalkPass) × (rest : List WalkPass) × IsWalkRun w (q ∷ rest) × (length rest ≡ n)
   pick (inl less) more = more less
   pick (inr most) more = (q, b, run, omega (arith, most, below))
 
 -- no run has more passes than a whole one
-not_longer : (w : WalkSetup) (a b : List WalkPass) → w.mode ≡ Settled → IsRun w a → IsRun w b → IsWhole w a → length a < length b → ⊥
+not_longer : (w : WalkSetup) (a b : List WalkPass) → w.mode ≡ Settled → IsWalkRun w a → IsWalkRun w b → IsWhole w a → length a < length b → ⊥
 not_longer w a b mode x y whole below =
     let f = front w b (length a) y below in
     let none = none_lost w a w.pictures mode (whole_step w a whole) in
@@ -111,14 +111,14 @@ not_longer w a b mode x y whole below =
     let same = h.step w.pictures f.0.picture (whole_step w a whole) f.2.1.step in
     let inside = f.2.1.of_path in omega (arith, same, inside)
 
-pub passes_are_one : (w : WalkSetup) (a b : List WalkPass) → w.mode ≡ Settled → IsRun w a → IsRun w b → IsWhole w a → IsWhole w b → length a ≡ length b
+pub passes_are_one : (w : WalkSetup) (a b : List WalkPass) → w.mode ≡ Settled → IsWalkRun w a → IsWalkRun w b → IsWhole w a → IsWhole w b → length a ≡ length b
 passes_are_one w a b mode x y whole whole_too = pick (cases_lt (length a) (length b)) (cases_lt (length b) (length a)) where
   pick : (length a < length b) ⊎ (length b ≤ length a) → (length b < length a) ⊎ (length a ≤ length b) → length a ≡ length b
   pick (inl less) other = absurd (not_longer w a b mode x y whole less)
   pick (inr most) (inl less) = absurd (not_longer w b a mode y x whole_too less)
   pick (inr most) (inr least) = omega (arith, most, least)
 
-pub reads_are_one : (w : WalkSetup) (a b : List WalkPass) → w.mode ≡ Settled → IsRun w a → IsRun w b → IsWhole w a → IsWhole w b → reads_of w a ≡ reads_of w b
+pub reads_are_one : (w : WalkSetup) (a b : List WalkPass) → w.mode ≡ Settled → IsWalkRun w a → IsWalkRun w b → IsWhole w a → IsWhole w b → reads_of w a ≡ reads_of w b
 reads_are_one w a b mode x y whole whole_too =
     let none = none_lost w a w.pictures mode (whole_step w a whole) in
     let none_too = none_lost w b w.pictures mode (whole_step w b whole_too) in

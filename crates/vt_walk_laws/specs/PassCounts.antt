@@ -9,10 +9,10 @@ use Rattle.vt_machine.specs.Lookups.{pages_before}
 use Rattle.vt_walk.specs.Wants.{pages_wanted}
 use Rattle.vt_machine.specs.PlanTypes.batches.Planned.{Planned}
 use Rattle.vt_machine.specs.PageLists.{each_once}
-use Rattle.vt_machine.specs.Missing.{is_mapped}
+use Rattle.vt_machine.specs.Missing.{has_frame}
 use Rattle.vt_walk.specs.WalkDecisionsTypes.mode.Mode.TheVariants.{Settled}
 use Rattle.vt_walk.specs.Fits.{WalkSetup}
-use Rattle.vt_walk.specs.Runs.{WalkPass, IsWalkSetup, IsRun, IsFinished, GoesOn, recency_after}
+use Rattle.vt_walk.specs.Runs.{WalkPass, IsWalkSetup, IsWalkRun, IsFinished, WalkGoesOn, recency_after}
 use Rattle.vt_walk.specs.Logs.{passes_of}
 
 -- the pages that are before the look-up in a page's line
@@ -30,7 +30,7 @@ most_before s mapped (p ∷ pages) = max (pages_before s mapped p) (most_before 
 
 -- which pages are mapped after the newest of some passes
 abbrev pub mapped_after : WalkSetup → List WalkPass → ℕ → Bool
-mapped_after w passes = is_mapped (recency_after w passes).entries
+mapped_after w passes = has_frame (recency_after w passes).entries
 
 -- the pages that a picture is to load, by the table after its first pass
 abbrev pub picture_pages : WalkSetup → WalkPass → List WalkPass → List ℕ
@@ -47,13 +47,13 @@ batch_pages batch = map (λ e. e.page) batch
 -- a run goes on after its newest pass, which finishes its picture
 abbrev pub IsAtPictureEnd : WalkSetup → List WalkPass → Type 0
 IsAtPictureEnd w [] = ⊥
-IsAtPictureEnd w (p ∷ passes) = GoesOn w.mode w p × IsFinished w p passes
+IsAtPictureEnd w (p ∷ passes) = WalkGoesOn w.mode w p × IsFinished w p passes
 
 -- the newest picture of a settled run: its later passes, of which the newest finishes it, and its first pass, before which none is of it
 pub record IsFinishedPicture (w : WalkSetup) (later : List WalkPass) (first : WalkPass) (before : List WalkPass) : Type 0 where
   pub setup : IsWalkSetup w
   pub settled : w.mode ≡ Settled
-  pub run : IsRun w (later ++ first ∷ before)
+  pub run : IsWalkRun w (later ++ first ∷ before)
   pub later_passes : AllByRecursion (λ p. p.picture ≡ first.picture) later
   pub first_pass : passes_of first.picture before ≡ []
   pub end : IsAtPictureEnd w (later ++ first ∷ before)

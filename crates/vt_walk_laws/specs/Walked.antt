@@ -12,7 +12,7 @@ pub record IsOfStore (under : Under) (g : WalkGiven) (b : List ℕ) : Type 0 whe
   pub shape : g.setup.shape ≡ g.scene.shape
   pub height : g.setup.height ≡ g.scene.path.height
   pub pictures : g.setup.pictures ≡ length g.scene.path.cameras
-  pub told : g.told ≡ Some b
+  pub known : g.known ≡ Some b
   pub shows : g.draws.shows g.scene b ≡ under (stored b) g.scene
 
 -- pictures, the newest first in the list, as files in the order of their numbers, each under its name

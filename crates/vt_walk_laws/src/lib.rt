@@ -12,7 +12,7 @@ pub use pass_counts::{
     run_has_its_pictures,
 };
 pub use replays::{
-    journal_tells_its_run, nearest_walk_is_of_its_store, replay_gives_the_walk,
+    journal_spells_its_run, nearest_walk_is_of_its_store, replay_gives_the_walk,
     replay_gives_the_written_picture, replay_gives_what_stands,
 };
 pub use runs::{
@@ -20,6 +20,6 @@ pub use runs::{
     picture_fits_or_not, picture_lines_stay, pictures_come_in_turn, planned_batch_may_be_run,
     ran_pass_comes_next, run_content_is_lawful, run_journal_is_legal, run_keeps_its_tables,
     run_order_is_by_stamps, run_pictures_stay, run_places_add_up, run_text_grows,
-    run_text_tells_its_content, settled_table_is_newest, unfit_picture_ends_the_run,
+    run_text_spells_its_content, settled_table_is_newest, unfit_picture_ends_the_run,
     whole_runs_count_alike,
 };

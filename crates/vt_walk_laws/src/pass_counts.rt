@@ -8,8 +8,8 @@ ghost use Rattle.vt_walk.specs.Plans.{missing_pages};
 ghost use Rattle.vt_machine.specs.PageLists.{is_in};
 ghost use Rattle.vt_walk.specs.Wants.{pages_wanted};
 ghost use Rattle.vt_walk.specs.WalkDecisionsTypes.mode.Mode.TheVariants.{Settled};
-ghost use Rattle.vt_walk.specs.Fits.{WalkSetup, Fits};
-ghost use Rattle.vt_walk.specs.Runs.{WalkPass, IsWalkSetup, IsRun, IsWhole, IsFinished, GoesOn, journal_after, recency_after, plan_after, planned_in};
+ghost use Rattle.vt_walk.specs.Fits.{WalkSetup, PictureFits};
+ghost use Rattle.vt_walk.specs.Runs.{WalkPass, IsWalkSetup, IsWalkRun, IsWhole, IsFinished, WalkGoesOn, journal_after, recency_after, plan_after, planned_in};
 ghost use Rattle.vt_walk.specs.Logs.{passes_of};
 ghost use Rattle.vt_walk_laws.specs.PassCounts.{mapped_after, picture_pages, most_in_line, batch_pages, IsFinishedPicture, HasPicture};
 
@@ -18,27 +18,27 @@ ghost use Rattle.vt_walk_laws.specs.PassCounts.{mapped_after, picture_pages, mos
 pub fn run_has_its_pictures()
     ensures earlier { (w : WalkSetup) (p : WalkPass) (passes : List WalkPass) (picture : ℕ) → IsWalkSetup w
         → w.mode ≡ Settled
-        → IsRun w (p ∷ passes) → picture < p.picture → HasPicture w (p ∷ passes) picture }
+        → IsWalkRun w (p ∷ passes) → picture < p.picture → HasPicture w (p ∷ passes) picture }
     ensures newest { (w : WalkSetup) (p : WalkPass) (passes : List WalkPass) → IsWalkSetup w → w.mode ≡ Settled
-        → IsRun w (p ∷ passes) → GoesOn w.mode w p → IsFinished w p passes → HasPicture w (p ∷ passes) p.picture }
+        → IsWalkRun w (p ∷ passes) → WalkGoesOn w.mode w p → IsFinished w p passes → HasPicture w (p ∷ passes) p.picture }
     ensures whole { (w : WalkSetup) (passes : List WalkPass) (picture : ℕ) → IsWalkSetup w → w.mode ≡ Settled
-        → IsRun w passes
+        → IsWalkRun w passes
         → IsWhole w passes → picture < w.pictures → HasPicture w passes picture }
 {}
 
 /// A page is mapped after passes of a run where the journal's newest version maps it.
 pub fn mapped_pages_are_the_journals()
-    ensures mapped { (w : WalkSetup) (passes : List WalkPass) (page : ℕ) → IsWalkSetup w → IsRun w passes
+    ensures mapped { (w : WalkSetup) (passes : List WalkPass) (page : ℕ) → IsWalkSetup w → IsWalkRun w passes
         → mapped_after w passes page ≡ true → IsSome (newest (journal_after w passes) page) }
-    ensures unmapped { (w : WalkSetup) (passes : List WalkPass) (page : ℕ) → IsWalkSetup w → IsRun w passes
+    ensures unmapped { (w : WalkSetup) (passes : List WalkPass) (page : ℕ) → IsWalkSetup w → IsWalkRun w passes
         → mapped_after w passes page ≡ false → newest (journal_after w passes) page ≡ None }
 {}
 
 /// What is planned for a picture that fits has all missing pages, or as many as a batch may have: frames are never
 /// too few.
 pub fn fitting_plan_is_full()
-    ensures { (w : WalkSetup) (p : WalkPass) (passes : List WalkPass) → IsWalkSetup w → IsRun w (p ∷ passes)
-        → Fits w p.picture
+    ensures { (w : WalkSetup) (p : WalkPass) (passes : List WalkPass) → IsWalkSetup w → IsWalkRun w (p ∷ passes)
+        → PictureFits w p.picture
         → length (plan_after w (p ∷ passes)) ≡ min w.most (length
         (missing_pages (recency_after w (p ∷ passes)) p.wants)) }
 {}

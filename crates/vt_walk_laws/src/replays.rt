@@ -14,7 +14,7 @@ ghost use Rattle.vt_walk.specs.WalkDecisionsTypes.mode.Mode.{Mode};
 ghost use Rattle.vt_walk.specs.WalkDecisionsTypes.settings.Settings.{Settings};
 ghost use Rattle.vt_walk.specs.Fits.{WalkSetup};
 ghost use Rattle.vt_walk.specs.Folders.{with_pictures, IsApart};
-ghost use Rattle.vt_walk.specs.Runs.{WalkPass, IsWalkSetup, IsRun, IsWhole, passes_told, run_content, run_text};
+ghost use Rattle.vt_walk.specs.Runs.{WalkPass, IsWalkSetup, IsWalkRun, IsWhole, content_passes, run_content, run_text};
 ghost use Rattle.vt_walk.specs.Shown.{last_rows};
 ghost use Rattle.vt_walk.specs.Standing.{Stands, Finished};
 ghost use Rattle.vt_walk.specs.States.{WalkState};
@@ -30,13 +30,13 @@ use vt_machine::PassMachine;
 
 /// The journal of a run tells of each picture the rows of its last pass, and it tells of as many pictures as the run
 /// has reached: of all, where the run is whole.
-pub fn journal_tells_its_run()
+pub fn journal_spells_its_run()
     ensures rows { (w : WalkSetup) (run : List WalkPass) (picture : ℕ)
-        → last_lines (passes_told w run) picture ≡ last_rows run picture }
+        → last_lines (content_passes w run) picture ≡ last_rows run picture }
     ensures pictures { (w : WalkSetup) (p : WalkPass) (run : List WalkPass)
-        → pictures_of (passes_told w (p ∷ run)) ≡ p.picture + 1 }
+        → pictures_of (content_passes w (p ∷ run)) ≡ p.picture + 1 }
     ensures whole { (w : WalkSetup) (run : List WalkPass) → IsWhole w run
-        → pictures_of (passes_told w run) ≡ w.pictures }
+        → pictures_of (content_passes w run) ≡ w.pictures }
 {}
 
 /// What a walk has written of a picture to which its run has come is the file of the replay of the run's journal,
@@ -44,10 +44,10 @@ pub fn journal_tells_its_run()
 /// refused later on.
 pub fn replay_gives_the_written_picture<M: PassMachine>()
     ensures { (under : Under) (g : WalkGiven) (b : List ℕ) (run : List WalkPass) (picture : ℕ) (bytes : List ℕ) → IsOfStore under g b
-        → IsRun g.setup run
-        → picture < pictures_of (passes_told g.setup run) → IsWritten (IsDrawnBySome M.PassMachine) g run picture bytes
+        → IsWalkRun g.setup run
+        → picture < pictures_of (content_passes g.setup run) → IsWritten (IsDrawnBySome M.PassMachine) g run picture bytes
         → bytes ≡ replay_file under (stored b) g.scene (content_changes g.scene.shape (run_content g.setup run))
-        (passes_told g.setup run) picture }
+        (content_passes g.setup run) picture }
 {}
 
 /// While a walk goes on, and where it was refused, the pictures written so far are those of the replay of the passes that
@@ -58,7 +58,7 @@ pub fn replay_gives_what_stands<M: PassMachine>()
         → IsOfStore under g b
         → Stands (IsDrawnBySome M.PassMachine) g run pictures first now
         → let file = replay_file under (stored b) g.scene (content_changes g.scene.shape (run_content g.setup run))
-        (passes_told g.setup run) in
+        (content_passes g.setup run) in
         expected_pictures prefix file (length pictures) ≡ named_pictures prefix pictures }
 {}
 
@@ -95,8 +95,8 @@ pub fn replay_gives_the_walk<M: PassMachine>()
 pub fn nearest_walk_is_of_its_store()
     ensures store { (scene : Scene) (settings : Settings) (mode : Mode) (b : List ℕ) (names : WalkNames)
         → IsOfStore pixel_under (given_by nearest scene settings mode (Some b) names) b }
-    ensures setup { (scene : Scene) (settings : Settings) (mode : Mode) (told : Option (List ℕ)) (names : WalkNames)
+    ensures setup { (scene : Scene) (settings : Settings) (mode : Mode) (known : Option (List ℕ)) (names : WalkNames)
         → IsWithinLimits scene.shape → AreSettings scene.shape settings
         → pinned_of scene.shape settings.pinned ≤ settings.frames
-        → IsWalkSetup (given_by nearest scene settings mode told names).setup }
+        → IsWalkSetup (given_by nearest scene settings mode known names).setup }
 {}

@@ -19,7 +19,7 @@ use Rattle.vt_sampler.specs.Evidence.{IsBy, AreTrue, AreShown}
 use Rattle.vt_sampler.specs.FilterLaws.{IsUnder}
 use Rattle.vt_sampler.proofs.Handed.{pixel_is_under}
 use Rattle.vt_tiles.specs.Format.{stored}
-use Rattle.vt_tiles.specs.StoreViews.{IsStore, IsStoreIfTold}
+use Rattle.vt_tiles.specs.StoreViews.{IsStore, IsStoreIfKnown}
 use Rattle.vt_tiles.proofs.Stored.{pieces_hold_texels}
 use Rattle.vt_sampler.specs.Views.{tile_word}
 use Rattle.vt_streaming.proofs.TileWords.{word_is}
@@ -112,11 +112,11 @@ module _ (shown : Shape → ℕ → ℕ → List Note → RowView → ℕ → Li
     row_replayed version i n y bytes are_shown x inside = pixel_replayed version i x y (texel_bytes d bytes x) (are_shown x inside)
 
   -- the rows of a picture
-  pub picture_replayed : (s : Shape) (d : ℕ) (told : Option (List ℕ)) (scene : Scene) (i n : ℕ) (lines : List RowLine) (rows : List (List ℕ))
-      → IsSound w → IsWithinLimits s → IsStoreIfTold told s d → AreStored s d told w.journal w.contents → scene.shape ≡ s → scene.depth ≡ d
+  pub picture_replayed : (s : Shape) (d : ℕ) (known : Option (List ℕ)) (scene : Scene) (i n : ℕ) (lines : List RowLine) (rows : List (List ℕ))
+      → IsSound w → IsWithinLimits s → IsStoreIfKnown known s d → AreStored s d known w.journal w.contents → scene.shape ≡ s → scene.depth ≡ d
       → ((y : ℕ) (line : RowLine) → slice_get lines y ≡ Some line
       → AreShown shown s d line.version (IsNotedBy w) (shot_row s scene.path i y) n (get_or rows y []))
-      → IfSome told (λ b. AreReplayed d n (λ m x y. under (stored b) scene m i x y) w.journal lines rows)
+      → IfSome known (λ b. AreReplayed d n (λ m x y. under (stored b) scene m i x y) w.journal lines rows)
   picture_replayed s d None scene i n lines rows sound limits store are same deep drawn = tt
   picture_replayed s d (Some b) scene i n lines rows sound limits store are same deep drawn = λ y line there.
       row_replayed s d b sound limits (store.each b refl) are scene same deep line.version i n y (get_or rows y []) (drawn y line there)

@@ -3,7 +3,7 @@ use Rattle.std.specs.Prelude.{◌≡◌, ℕ, ◌<◌, ◌≤◌, true, Some, le
 use Rattle.vt_sampler.specs.Shots.{shot_row, wants_in_rows}
 use Rattle.vt_sampler.specs.Values.{WordsValue, PassValue}
 use Rattle.vt_sampler.specs.Tokens.{IsPassOf}
-use Rattle.vt_sampler.specs.LookupNotes.{Fits, IsNotedIn, HasHeldMore}
+use Rattle.vt_sampler.specs.LookupNotes.{FitsShape, IsNotedIn, HasHeldMore}
 use Rattle.vt_sampler.specs.Held.{WasHeld}
 use Rattle.vt_sampler.specs.Samplers.{IsOwn, IsFor, own_rows, row_at, row_length, version_at}
 use Rattle.vt_sampler.specs.PicturesTypes.filters.Filter.{Ghosts as FilterMeanings}
@@ -15,7 +15,7 @@ use Rattle.vt_word_samplers.specs.WordSamplers.{WordSampler}
 pub record MayDraw (words : WordsValue) (scene : Scene) (picture : ℕ) (a : WordSampler) : Type 0 where
   pub for_it : IsFor a.sampler scene.shape scene.path scene.depth
   pub picture_is : picture < length scene.path.cameras
-  pub fits : Fits scene.shape words.sizes
+  pub fits : FitsShape scene.shape words.sizes
   pub pass : PassValue
   pub has : a.pass ≡ Some pass
   pub of : IsPassOf words pass

@@ -10,7 +10,7 @@ ghost use Rattle.vt_journal.specs.declared.changes.Change.{Change};
 ghost use Rattle.vt_journal.specs.declared.changes.RowLine.{RowLine};
 ghost use Rattle.vt_journal.specs.Changes.{at};
 ghost use Rattle.vt_tiles.specs.Format.{stored};
-ghost use Rattle.vt_tiles.specs.StoreViews.{IsStore, IsStoreIfTold};
+ghost use Rattle.vt_tiles.specs.StoreViews.{IsStore, IsStoreIfKnown};
 ghost use Rattle.vt_sampler.specs.GraceTypes.views.EntryNote.{EntryNote as ReadEntry};
 ghost use Rattle.vt_sampler.specs.GraceTypes.views.WordNote.{WordNote as ReadWord};
 ghost use Rattle.vt_sampler.specs.GraceTypes.views.PassView.{PassView};
@@ -54,15 +54,15 @@ pub fn noted_rows_are_replayed<P: Filter>()
 {}
 
 /// A picture each of whose rows was drawn so, at the version that its line names, is the replay of the journal, where
-/// the store's bytes are told.
+/// the store's bytes are known.
 pub fn pictures_by_notes_are_replayed<P: Filter>()
-    ensures { (w : WriterView) (s : Shape) (d : ℕ) (told : Option (List ℕ)) (scene : Scene) (i n : ℕ)
+    ensures { (w : WriterView) (s : Shape) (d : ℕ) (known : Option (List ℕ)) (scene : Scene) (i n : ℕ)
         (lines : List RowLine) (rows : List (List ℕ))
-        → IsSound w → IsWithinLimits s → IsStoreIfTold told s d → AreStored s d told w.journal w.contents
+        → IsSound w → IsWithinLimits s → IsStoreIfKnown known s d → AreStored s d known w.journal w.contents
         → scene.shape ≡ s → scene.depth ≡ d
         → ((y : ℕ) (line : RowLine) → slice_get lines y ≡ Some line
         → AreShown P.shown s d line.version (IsNotedBy w) (shot_row s scene.path i y) n (slice_index_or rows y []))
-        → IfSome told (λ b. AreReplayed d n (λ m x y. P.under (stored b) scene m i x y) w.journal lines rows) }
+        → IfSome known (λ b. AreReplayed d n (λ m x y. P.under (stored b) scene m i x y) w.journal lines rows) }
 {}
 
 /// What a pass has noted the writer has noted once it took the pass back; and what a writer has noted it has noted after
@@ -109,8 +109,8 @@ pub fn nearest_rows_are_drawn()
 /// Where the contents of a journal and those of the changes that were added are tiles of a store, those of the whole
 /// journal are.
 pub fn stored_contents_grow()
-    ensures { (s : Shape) (d : ℕ) (told : Option (List ℕ)) (journal added : List Change)
+    ensures { (s : Shape) (d : ℕ) (known : Option (List ℕ)) (journal added : List Change)
         (contents more : List (List ℕ)) → length contents ≡ length journal
-        → AreStored s d told journal contents → AreStored s d told added more
-        → AreStored s d told (journal ++ added) (contents ++ more) }
+        → AreStored s d known journal contents → AreStored s d known added more
+        → AreStored s d known (journal ++ added) (contents ++ more) }
 {}

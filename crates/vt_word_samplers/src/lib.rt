@@ -6,8 +6,8 @@
 mod drawing;
 mod given;
 mod laws;
+mod reports;
 mod samplers;
-mod told;
 
 pub use drawing::draw_own;
 pub use given::{give_passes, return_passes};
@@ -16,8 +16,8 @@ pub use laws::{
     noted_rows_are_replayed, notes_are_kept, notes_are_true, pictures_by_notes_are_replayed,
     rows_need_new_notes, stored_contents_grow,
 };
+pub use reports::{count_together, note_lines};
 pub use samplers::{WithPass, WordSampler};
-pub use told::{count_together, note_lines};
 pub use vt_journal::RowLines;
 pub use vt_sampler::{Filter, Nearest, Sampler, Shot, Words};
 pub use vt_streaming::{Counts, StreamReport, Streamer, stream_batch};

@@ -33,18 +33,18 @@ is_map : Change → Bool
 is_map (Map page frame) = true
 is_map (Unmap page frame) = false
 
-module _ (s : Shape) (d : ℕ) (told : Option (List ℕ)) where
-  none_stored : (contents : List (List ℕ)) → AreStored s d told [] contents
+module _ (s : Shape) (d : ℕ) (known : Option (List ℕ)) where
+  none_stored : (contents : List (List ℕ)) → AreStored s d known [] contents
   none_stored contents k page frame is = absurd (none-some (Map page frame) is)
 
-  one_stored : (p f : ℕ) (content : List ℕ) → IsStored s d told p content → AreStored s d told (Map p f ∷ []) (content ∷ [])
+  one_stored : (p f : ℕ) (content : List ℕ) → IsStored s d known p content → AreStored s d known (Map p f ∷ []) (content ∷ [])
   unfolding page_of
-  one_stored p f content so zero page frame is = subst (λ (q : ℕ). IsStored s d told q content) (ap page_of (same_Some (Map p f) (Map page frame) is)) so
+  one_stored p f content so zero page frame is = subst (λ (q : ℕ). IsStored s d known q content) (ap page_of (same_Some (Map p f) (Map page frame) is)) so
   one_stored p f content so (suc k) page frame is = absurd (none-some (Map page frame) is)
 
   -- the contents of an entry that was read
-  read_stored : (victim : Option ℕ) (p f : ℕ) (content : List ℕ) → IsStored s d told p content
-      → AreStored s d told (changes_of (victim_events victim f ++ Changed (Map p f) ∷ [])) (victim_contents victim ++ content ∷ [])
+  read_stored : (victim : Option ℕ) (p f : ℕ) (content : List ℕ) → IsStored s d known p content
+      → AreStored s d known (changes_of (victim_events victim f ++ Changed (Map p f) ∷ [])) (victim_contents victim ++ content ∷ [])
   unfolding is_map
   read_stored None p f content so k page frame is = one_stored p f content so k page frame is
   read_stored (Some v) p f content so zero page frame is = absurd (false≢true (ap is_map (same_Some (Unmap v f) (Map page frame) is)))
@@ -57,8 +57,8 @@ module _ (s : Shape) (d : ℕ) (told : Option (List ℕ)) where
 
   -- the contents of an entry, whose tile is the store's where it was read
   group_stored : (o : Option Planned) (lost : Bool) (tile : List ℕ) → length tile ≡ tile_length s d
-      → (lost ≡ false → IfSome told (λ b. IsPiece b (tile_start s d (page_if o)) tile))
-      → AreStored s d told (changes_of (group_if o lost)) (contents_if s o lost tile)
+      → (lost ≡ false → IfSome known (λ b. IsPiece b (tile_start s d (page_if o)) tile))
+      → AreStored s d known (changes_of (group_if o lost)) (contents_if s o lost tile)
   group_stored None lost tile size of = none_stored (contents_if s None lost tile)
   group_stored (Some e) true tile size of = none_stored []
   group_stored (Some e) false tile size of = read_stored e.victim e.page e.frame (words_in s tile)
@@ -74,20 +74,20 @@ module _ (s : Shape) (d : ℕ) (told : Option (List ℕ)) where
   was_read Lost e = absurd (false≢true (sym e))
 
   module _ (batch : List Planned) where
-    result_stored : (x : Loaded) → IsResultOf batch x → IsGood told s d x
-        → AreStored s d told (changes_of (result_group batch x)) (result_contents s batch x)
+    result_stored : (x : Loaded) → IsResultOf batch x → IsGood known s d x
+        → AreStored s d known (changes_of (result_group batch x)) (result_contents s batch x)
     result_stored x entry good = group_stored (slice_get batch x.request.ticket) (is_lost x.outcome) x.request.buffer.elements good.size
-        (λ e. subst (λ (p : ℕ). IfSome told (λ b. IsPiece b (tile_start s d p) x.request.buffer.elements)) entry.page (good.tile (was_read x.outcome e)))
+        (λ e. subst (λ (p : ℕ). IfSome known (λ b. IsPiece b (tile_start s d p) x.request.buffer.elements)) entry.page (good.tile (was_read x.outcome e)))
 
     -- the contents of results
-    pub results_stored : (xs : List Loaded) → All (IsResultOf batch) xs → All (IsGood told s d) xs
-        → AreStored s d told (changes_of (result_events batch xs)) (results_contents s batch xs)
+    pub results_stored : (xs : List Loaded) → All (IsResultOf batch) xs → All (IsGood known s d) xs
+        → AreStored s d known (changes_of (result_events batch xs)) (results_contents s batch xs)
     results_stored [] entries good = none_stored []
     results_stored (x ∷ xs) entries good =
-        subst (λ (js : List Change). AreStored s d told js (results_contents s batch (x ∷ xs)))
+        subst (λ (js : List Change). AreStored s d known js (results_contents s batch (x ∷ xs)))
         (sym (changes_of-append (result_group batch x) (result_events batch xs)))
-        (stored_grow s d told (changes_of (result_group batch x)) (changes_of (result_events batch xs)) (result_contents s batch x)
+        (stored_grow s d known (changes_of (result_group batch x)) (changes_of (result_events batch xs)) (result_contents s batch x)
         (results_contents s batch xs)
         (group_long (slice_get batch x.request.ticket) (is_lost x.outcome) x.request.buffer.elements)
-        (result_stored x (All-head (IsResultOf batch) x xs entries) (All-head (IsGood told s d) x xs good))
-        (results_stored xs (All-tail (IsResultOf batch) x xs entries) (All-tail (IsGood told s d) x xs good)))
+        (result_stored x (All-head (IsResultOf batch) x xs entries) (All-head (IsGood known s d) x xs good))
+        (results_stored xs (All-tail (IsResultOf batch) x xs entries) (All-tail (IsGood known s d) x xs good)))

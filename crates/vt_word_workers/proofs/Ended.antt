@@ -35,9 +35,9 @@ use Rattle.vt_word_workers.specs.declared.workers.WordStreamer.{WordStreamer}
 use Rattle.vt_word_samplers.specs.GivenPasses.{HasNewPass, ArePassesOf, all_returned, without_pass, without_passes}
 use Rattle.vt_word_samplers.specs.SamplerTasks.{HasDrawn}
 use Rattle.vt_word_samplers.specs.DealtRows.{IsSamplerOf, AreSamplersOf, row_by, version_by, counted_together}
-use Rattle.vt_word_workers.specs.Kits.{KitView}
+use Rattle.vt_word_workers.specs.WorkerPools.{WorkerPoolView}
 use Rattle.vt_word_workers.specs.HeldPasses.{IsHeldRow}
-use Rattle.vt_word_workers.specs.KitPasses.{Begun, HaveWorked, WasDrawn}
+use Rattle.vt_word_workers.specs.PoolPasses.{Begun, HaveWorked, WasDrawn}
 use Rattle.vt_word_workers.proofs.Returned.{holds_of, HasOwnPass, return_of, WasReturned, was_returned, have_returned, says_more, none_out, have_noted}
 use Rattle.vt_word_workers.proofs.RowLines.{row_version, counted_is_wanted}
 
@@ -61,7 +61,7 @@ counted_without (t ∷ ts) p =
     let r = counted_without ts p in
     omega (arith, a, b, r)
 
-module _ {F P : Type 0} (g : FileMeanings F) (filter : FilterMeanings P) (words : WordsValue) (q : Queues) (k : KitView F) (job : Job)
+module _ {F P : Type 0} (g : FileMeanings F) (filter : FilterMeanings P) (words : WordsValue) (q : Queues) (k : WorkerPoolView F) (job : Job)
     (c : List (QueuedView F)) (f : List WordSampler) (t : WordStreamer) (b : Begun F) (h : HaveWorked g filter words q k job c f t b) where
   -- what a sampler was, that it had a new pass then, and that it has drawn
   record HasWorked (number : ℕ) (task : WordSampler) : Type 0 where
@@ -76,7 +76,7 @@ module _ {F P : Type 0} (g : FileMeanings F) (filter : FilterMeanings P) (words 
       let there = slice_get-get_or b.samplers m task low in
       record {
         before = get_or b.samplers m task;
-        was = h.fit.kit.samplers.each m (get_or b.samplers m task) there;
+        was = h.fit.pool.samplers.each m (get_or b.samplers m task) there;
         new = h.passes m (get_or b.samplers m task) there;
         drawn = subst (λ (x : WordSampler). HasDrawn filter words job.scene job.picture (get_or b.samplers m task) x) (get_or_from_slice_get f m task task is)
             (h.drawn m task low);
@@ -110,9 +110,9 @@ module _ {F P : Type 0} (g : FileMeanings F) (filter : FilterMeanings P) (words 
   }
 
   number_is : length f ≡ k.crew.samplers
-  number_is = h.number ∙ h.fit.kit.samplers.count
+  number_is = h.number ∙ h.fit.pool.samplers.count
 
-  -- without their passes the samplers are those of the kit
+  -- without their passes the samplers are those of the pool
   pub samplers_stay : AreSamplersOf k.shape k.depth k.width k.height k.crew.samplers (without_passes f)
   samplers_stay = record {
     count = length-map f without_pass ∙ number_is;
@@ -125,20 +125,20 @@ module _ {F P : Type 0} (g : FileMeanings F) (filter : FilterMeanings P) (words 
   sampler_counts p m task inside is =
       let d = worked m task is in
       let its = stays m task is in
-      let below : p < length task.sampler.counts = (let a = its.pages in let e = h.fit.kit.counts in omega (arith, a, e, inside)) in
+      let below : p < length task.sampler.counts = (let a = its.pages in let e = h.fit.pool.counts in omega (arith, a, e, inside)) in
       d.drawn.counted p below
       ∙ (λ i. wants_in_rows filter.wants job.scene.shape job.scene.path job.picture (own_rows (its.number_is i) (its.among i) (d.drawn.for_it.height i)) p)
 
   -- what they have counted together is what the picture wants
   pub counted : (p : ℕ) → p < length k.counts → counted_together (without_passes f) p ≡ picture_wants filter.wants job.scene job.picture p
   counted p inside = counted_without f p
-      ∙ counted_is_wanted filter.wants job.scene.shape job.scene.path job.picture k.crew.samplers p f h.fit.kit.crew.some_sampler number_is
+      ∙ counted_is_wanted filter.wants job.scene.shape job.scene.path job.picture k.crew.samplers p f h.fit.pool.crew.some_sampler number_is
       (λ m task is. sampler_counts p m task inside is)
 
   -- and it is below the counts' bound
   pub counts_low : WantsFew filter.wants → (p : ℕ) → p < length k.counts → counted_together (without_passes f) p < 2 ^ 32
   counts_low most p inside =
-      let sides = subst (λ (x : ℕ × ℕ). ArePictureSides x.0 x.1) (λ i. (sym h.job_is.width i, sym h.job_is.height i)) h.fit.kit.sides in
+      let sides = subst (λ (x : ℕ × ℕ). ArePictureSides x.0 x.1) (λ i. (sym h.job_is.width i, sym h.job_is.height i)) h.fit.pool.sides in
       let few = picture_few filter.wants most job.scene.shape job.scene.path job.picture p sides in
       let e = counted p inside in
       omega (arith, e, few)
@@ -173,7 +173,7 @@ module _ {F P : Type 0} (g : FileMeanings F) (filter : FilterMeanings P) (words 
           bytes_are = ap (λ o. row_by o y) (without_there f turn at.0 at.2);
           version_is = ap (λ o. version_by o y) (without_there f turn at.0 at.2);
         }
-        | inr past ↦ absurd (let low = mod_below y k.crew.samplers h.fit.kit.crew.some_sampler in let e = number_is in let a = past.0 in
+        | inr past ↦ absurd (let low = mod_below y k.crew.samplers h.fit.pool.crew.some_sampler in let e = number_is in let a = past.0 in
             omega (arith, low, e, a))
       ]
 

@@ -1,4 +1,4 @@
--- What the calls that end a pass leave is a pass, and a kit that can go on.
+-- What the calls that end a pass leave is a pass, and a pool that can go on.
 use Rattle.std.proofs.Common.{◌≡◌, ℕ, ◌<◌, List, length, sym, ap, ◌∙◌, subst}
 use Rattle.std.specs.Prelude.{slice_index, reverse, All}
 use Rattle.std.specs.List.{refill}
@@ -16,7 +16,7 @@ use Rattle.vt_queue.specs.declared.items.Request.{Request}
 use Rattle.vt_queue.specs.declared.items.Loaded.{Loaded}
 use Rattle.vt_queue.specs.declared.views.PassView.{PassView}
 use Rattle.vt_queue.specs.PassViews.{all_joined}
-use Rattle.vt_queue.specs.Queues.{view_of}
+use Rattle.vt_queue.specs.Queues.{queue_view_of}
 use Rattle.vt_queue.specs.Steps.{IsAtStep}
 use Rattle.vt_load.specs.declared.queued.Queues.{Queues}
 use Rattle.vt_load.specs.QueuedLoaders.{QueuedView, asks_of, answers_of, stores_of}
@@ -27,10 +27,10 @@ use Rattle.vt_loading.specs.Sizes.{AreSized}
 use Rattle.vt_word_samplers.specs.WordSamplers.{WordSampler}
 use Rattle.vt_word_workers.specs.declared.workers.WordStreamer.{WordStreamer}
 use Rattle.vt_word_samplers.specs.GivenPasses.{all_returned, without_pass, without_passes}
-use Rattle.vt_loading.specs.RoundKits.{RoundKitView}
+use Rattle.vt_loading.specs.RoundStocks.{RoundStockView}
 use Rattle.vt_word_samplers.specs.DealtRows.{lines_of, counted_together}
-use Rattle.vt_word_workers.specs.Kits.{KitView, IsIdleKit}
-use Rattle.vt_word_workers.specs.KitPasses.{Begun, MayFinish, KitRan, kit_before}
+use Rattle.vt_word_workers.specs.WorkerPools.{WorkerPoolView, IsIdlePool}
+use Rattle.vt_word_workers.specs.PoolPasses.{Begun, MayFinish, PoolRan, pool_before}
 use Rattle.vt_word_workers.proofs.Finished.{sizes_back, idle_finished, ran_finished}
 
 -- samplers that were lent to have their passes taken back
@@ -40,18 +40,18 @@ tasks_back xs lent ws same are =
     refilled xs ws (ap length all ∙ length-map xs without_pass) ∙ all
 
 module _ {F P : Type 0} (g : FileMeanings F) (filter : FilterMeanings P) (law : IsUnder filter.shown filter.under) (words : WordsValue) (q : Queues)
-    (k : KitView F) (job : Job) (c : List (QueuedView F)) (f : List WordSampler) (t : WordStreamer) (b : Begun F)
+    (k : WorkerPoolView F) (job : Job) (c : List (QueuedView F)) (f : List WordSampler) (t : WordStreamer) (b : Begun F)
     (may : MayFinish g filter words q k job c f t b)
     (asks_back : PassView Request) (answers_end : PassView Loaded) (stores : List (StoreView F))
-    (joined : asks_back ≡ all_joined (view_of k.round.asks) (asks_of c)) (given : answers_end ≡ all_joined (view_of t.answers) (answers_of c))
+    (joined : asks_back ≡ all_joined (queue_view_of k.round.asks) (asks_of c)) (given : answers_end ≡ all_joined (queue_view_of t.answers) (answers_of c))
     (unread : (left : List Request) × IsAtStep asks_back left) (over : (left : List Loaded) × IsAtStep answers_end left)
     (stores_are : stores ≡ reverse (stores_of c))
     (lent ws : List WordSampler) (lent_is : lent ≡ f) (without : ws ≡ without_passes lent)
     (w : StreamerView) (of : IsStreamerOf words w) (returned : w ≡ record t.streamer { writer = all_returned t.streamer.writer lent })
-    (before round : RoundKitView F) (same_buffers : before.buffers ≡ k.round.buffers)
+    (before round : RoundStockView F) (same_buffers : before.buffers ≡ k.round.buffers)
     (kept : (n : ℕ) → All (λ (x : Loaded). length x.request.buffer.elements ≡ n) t.report.results.elements → AreSized n before.buffers.elements
     → AreSized n round.buffers.elements)
-    (l : KitView F) (counts : List ℕ) (rows : ListView RowLine)
+    (l : WorkerPoolView F) (counts : List ℕ) (rows : ListView RowLine)
     (rest : l ≡ record k { samplers = refill (length f) f ws; stores = stores; counts = counts; rows = rows; round = round })
     (number : length counts ≡ length k.counts)
     (sums : (p : ℕ) → p < length k.counts → slice_index counts p ≡ counted_together (refill (length f) f ws) p) where
@@ -71,15 +71,15 @@ module _ {F P : Type 0} (g : FileMeanings F) (filter : FilterMeanings P) (law : 
   summed : (p : ℕ) → p < length k.counts → slice_index counts p ≡ counted_together (without_passes f) p
   summed p low = sums p low ∙ ap (λ xs. counted_together xs p) back
 
-  -- the kit can go on
-  pub goes_on : IsIdleKit g words w l
+  -- the pool can go on
+  pub goes_on : IsIdlePool g words w l
   goes_on = idle_finished g filter words q k job c f t b may asks_back answers_end joined given unread over law (subst (IsStreamerOf words) w_is of) counts number summed
       rows round sizes w w_is l l_is
 
   -- and a pass was run
   pub ran : (report : PassReport) → report.rows.elements ≡ lines_of k.crew.samplers (refill (length f) f ws) k.height
       → report.events ≡ t.report.events → report.losses ≡ t.report.losses
-      → KitRan g filter words job report b.streamer.streamer (kit_before k b) w l
-  ran report lines noted told = ran_finished g filter words q k job c f t b may asks_back answers_end joined given unread over law
+      → PoolRan g filter words job report b.streamer.streamer (pool_before k b) w l
+  ran report lines noted known = ran_finished g filter words q k job c f t b may asks_back answers_end joined given unread over law
       (subst (IsStreamerOf words) w_is of) counts number summed rows round sizes w w_is l l_is report
-      (lines ∙ ap (λ xs. lines_of k.crew.samplers xs k.height) back) noted told
+      (lines ∙ ap (λ xs. lines_of k.crew.samplers xs k.height) back) noted known

@@ -1,4 +1,4 @@
--- A kit whose samplers were given their passes.
+-- A pool whose samplers were given their passes.
 use Rattle.std.proofs.Common.{◌≡◌, List, sym, ap, ◌∙◌, subst}
 use Rattle.vt_outside.specs.declared.outside.File.{Ghosts as FileMeanings}
 use Rattle.vt_word_samplers.specs.Values.{WordsValue}
@@ -11,9 +11,9 @@ use Rattle.vt_loading.specs.RequestsTypes.report.StreamReport.{StreamReport}
 use Rattle.vt_word_samplers.specs.WordSamplers.{WordSampler}
 use Rattle.vt_word_samplers.specs.GivenPasses.{HaveNewPasses, HasGiven, AreSameSamplers}
 use Rattle.vt_word_samplers.proofs.GivenOnes.{samplers_same}
-use Rattle.vt_word_workers.specs.Kits.{KitView, IsAskedKit, IsReadyKit}
+use Rattle.vt_word_workers.specs.WorkerPools.{WorkerPoolView, IsAskedPool, IsReadyPool}
 
-module _ {F : Type 0} (g : FileMeanings F) (words : WordsValue) (v w : StreamerView) (k : KitView F) (after : List WordSampler)
+module _ {F : Type 0} (g : FileMeanings F) (words : WordsValue) (v w : StreamerView) (k : WorkerPoolView F) (after : List WordSampler)
     (rest : w ≡ record v { writer = w.writer }) (given : HasGiven v.writer w.writer) (of : IsStreamerOf words w)
     (passes : HaveNewPasses words v.writer after) (same : AreSameSamplers k.samplers after) where
   -- the streamer that gave the passes, by what it was
@@ -24,28 +24,28 @@ module _ {F : Type 0} (g : FileMeanings F) (words : WordsValue) (v w : StreamerV
   unfolding gave
   gave_is = rest ∙ ap (λ (x : _). record v { writer = x }) given.rest
 
-  -- a kit that has asked is ready once the passes were given
+  -- a pool that has asked is ready once the passes were given
   pub once_given : (q : Queues) (answers : QueuePass Loaded) (report : StreamReport) (batch : List Planned)
-      → IsAskedKit g words q (record { streamer = v; answers = answers; report = report }) k batch
-      → IsReadyKit g words q (record { streamer = w; answers = answers; report = report }) (record k { samplers = after }) batch
+      → IsAskedPool g words q (record { streamer = v; answers = answers; report = report }) k batch
+      → IsReadyPool g words q (record { streamer = w; answers = answers; report = report }) (record k { samplers = after }) batch
   unfolding gave
   once_given q answers report batch h =
-      subst (λ (x : StreamerView). IsReadyKit g words q (record { streamer = x; answers = answers; report = report }) (record k { samplers = after }) batch)
+      subst (λ (x : StreamerView). IsReadyPool g words q (record { streamer = x; answers = answers; report = report }) (record k { samplers = after }) batch)
       (sym gave_is) (record {
         fit = record {
           of = subst (IsStreamerOf words) gave_is of;
           shape = h.fit.shape;
           samplers = h.fit.samplers;
           stored = h.fit.stored;
-          kit = record {
-            crew = h.fit.kit.crew;
-            depth = h.fit.kit.depth;
-            stores = h.fit.kit.stores;
-            told = h.fit.kit.told;
-            samplers = samplers_same k.shape k.depth k.width k.height k.crew.samplers k.samplers after same h.fit.kit.samplers;
-            sides = h.fit.kit.sides;
-            counts = h.fit.kit.counts;
-            buffers = h.fit.kit.buffers;
+          pool = record {
+            crew = h.fit.pool.crew;
+            depth = h.fit.pool.depth;
+            stores = h.fit.pool.stores;
+            known = h.fit.pool.known;
+            samplers = samplers_same k.shape k.depth k.width k.height k.crew.samplers k.samplers after same h.fit.pool.samplers;
+            sides = h.fit.pool.sides;
+            counts = h.fit.pool.counts;
+            buffers = h.fit.pool.buffers;
           };
         };
         lawful = h.lawful;

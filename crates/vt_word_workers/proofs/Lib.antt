@@ -4,7 +4,7 @@ pub use Rattle.vt_loading.proofs.StoreRooms
 pub use Rattle.vt_word_samplers.proofs.Growing
 pub use Rattle.vt_word_samplers.proofs.Replayed
 pub use Rattle.vt_word_samplers.proofs.Sharing
-pub mod Kits
+pub mod WorkerPools
 pub mod Rooms
 pub mod Returned
 pub mod Contents

@@ -1,4 +1,4 @@
--- What gets room for a pass: the stores of a kit, one after another, the kit and its streamer.
+-- What gets room for a pass: the stores of a pool, one after another, the pool and its streamer.
 use Rattle.std.proofs.Common.{◌≡◌, ℕ, ◌<◌, ◌≤◌, List, [], length, get_or, ◌*◌, Option, refl, sym, ap, ◌∙◌, subst}
 use Rattle.std.specs.Prelude.{All}
 use Rattle.vt_outside.specs.Lists.{ListView}
@@ -10,10 +10,10 @@ use Rattle.vt_camera.specs.Paths.{ArePictureSides}
 use Rattle.vt_word_samplers.specs.JournalTypes.changes.RowLine.{RowLine}
 use Rattle.vt_word_samplers.specs.Changes.{newest}
 use Rattle.vt_load.specs.Format.{tile_length}
-use Rattle.vt_load.specs.StoreViews.{StoreView, IsStoreIfTold}
+use Rattle.vt_load.specs.StoreViews.{StoreView, IsStoreIfKnown}
 use Rattle.vt_word_samplers.specs.TableViews.{IsTable}
 use Rattle.vt_word_samplers.specs.Values.{WordsValue}
-use Rattle.vt_word_samplers.specs.Views.{StreamerView, table_of, IsStreamerOf}
+use Rattle.vt_word_samplers.specs.Views.{StreamerView, streamer_table, IsStreamerOf}
 use Rattle.vt_loading.specs.PlanTypes.batches.Planned.{Planned}
 use Rattle.vt_queue.specs.declared.queue.QueuePass.{QueuePass}
 use Rattle.vt_queue.specs.declared.items.Loaded.{Loaded}
@@ -26,17 +26,17 @@ use Rattle.vt_word_samplers.specs.Stored.{AreStored}
 use Rattle.vt_loading.specs.RequestsTypes.report.StreamReport.{StreamReport}
 use Rattle.vt_loading.specs.BlankReports.{IsBlank}
 use Rattle.vt_word_workers.specs.declared.workers.WordStreamer.{WordStreamer}
-use Rattle.vt_loading.specs.RoundKits.{IsSetUp, IsAsked}
+use Rattle.vt_loading.specs.RoundStocks.{IsSetUp, IsAsked}
 use Rattle.vt_word_samplers.specs.DealtRows.{AreSamplersOf}
-use Rattle.vt_word_workers.specs.Kits.{KitView, IsKit, IsFitKit, IsIdleKit, AreAllIn, IsPreparedKit, IsAskedKit, HasRoom, IsSameKit}
+use Rattle.vt_word_workers.specs.WorkerPools.{WorkerPoolView, IsWorkerPool, IsFitPool, IsIdlePool, AreAllIn, IsPreparedPool, IsAskedPool, HasRoom, IsSamePool}
 use Rattle.vt_loading.specs.SameStores.{AreSameStores}
-use Rattle.vt_loading.proofs.StoreRooms.{stores_for, told_same}
+use Rattle.vt_loading.proofs.StoreRooms.{stores_for, known_same}
 
 -- the streamer of words stays so with more room
 pub streamer_still : (words : WordsValue) (v w : StreamerView) → w ≡ record v { spare = w.spare } → IsStreamerOf words v → IsStreamerOf words w
 streamer_still words v w same of =
     let t = of.lawful in
-    let table : IsTable (table_of (record v { spare = w.spare })) = record {
+    let table : IsTable (streamer_table (record v { spare = w.spare })) = record {
       limits = t.limits;
       some_frame = t.some_frame;
       few_frames = t.few_frames;
@@ -56,14 +56,14 @@ streamer_still words v w same of =
     })
 
 -- room stays so
-pub room_asked : {F : Type 0} (l m : KitView F) → m ≡ record l { round = m.round } → HasRoom l → HasRoom m
+pub room_asked : {F : Type 0} (l m : WorkerPoolView F) → m ≡ record l { round = m.round } → HasRoom l → HasRoom m
 room_asked l m rest room = subst HasRoom (sym rest) (record { no_rows = room.no_rows; rows = room.rows })
 
 module _ {F : Type 0} (g : FileMeanings F) where
-  -- a kit with other lists is the same
-  pub same_lists : (j k : KitView F) (rows : ListView RowLine) (stores : List (StoreView F)) → j ≡ k
-      → AreSameStores g j.stores stores → IsSameKit g k (record j { rows = rows; stores = stores })
-  same_lists j k rows stores e h = subst (λ x. IsSameKit g x (record j { rows = rows; stores = stores })) e (record {
+  -- a pool with other lists is the same
+  pub same_lists : (j k : WorkerPoolView F) (rows : ListView RowLine) (stores : List (StoreView F)) → j ≡ k
+      → AreSameStores g j.stores stores → IsSamePool g k (record j { rows = rows; stores = stores })
+  same_lists j k rows stores e h = subst (λ x. IsSamePool g x (record j { rows = rows; stores = stores })) e (record {
     shape = refl;
     depth = refl;
     width = refl;
@@ -74,17 +74,17 @@ module _ {F : Type 0} (g : FileMeanings F) where
     stores = h;
   })
 
-  -- a whole kit stays so with more room
-  pub kit_still : (k l : KitView F) → IsSameKit g k l → IsKit g k → All (λ b. length b.elements ≡ tile_length l.shape l.depth) l.round.buffers.elements
-      → IsKit g l
-  kit_still k l h kit buffers = record {
-    crew = subst IsCrew (sym h.crew) kit.crew;
-    depth = subst IsDepth (sym h.depth) kit.depth;
+  -- a whole pool stays so with more room
+  pub pool_still : (k l : WorkerPoolView F) → IsSamePool g k l → IsWorkerPool g k → All (λ b. length b.elements ≡ tile_length l.shape l.depth) l.round.buffers.elements
+      → IsWorkerPool g l
+  pool_still k l h pool buffers = record {
+    crew = subst IsCrew (sym h.crew) pool.crew;
+    depth = subst IsDepth (sym h.depth) pool.depth;
     stores = stores_for g l.shape l.depth l.crew.loaders k.stores l.stores h.stores
-        (subst (λ (x : Shape × ℕ × Crew). AreStoresFor g x.0 x.1 x.2.loaders k.stores) (λ i. (sym h.shape i, sym h.depth i, sym h.crew i)) kit.stores);
-    told = subst (λ (x : Option (List ℕ) × Shape × ℕ). IsStoreIfTold x.0 x.1 x.2)
-        (λ i. (sym (told_same g k.stores l.stores h.stores) i, sym h.shape i, sym h.depth i)) kit.told;
-    samplers = subst (λ (x : KitView F). AreSamplersOf x.shape x.depth x.width x.height x.crew.samplers x.samplers)
+        (subst (λ (x : Shape × ℕ × Crew). AreStoresFor g x.0 x.1 x.2.loaders k.stores) (λ i. (sym h.shape i, sym h.depth i, sym h.crew i)) pool.stores);
+    known = subst (λ (x : Option (List ℕ) × Shape × ℕ). IsStoreIfKnown x.0 x.1 x.2)
+        (λ i. (sym (known_same g k.stores l.stores h.stores) i, sym h.shape i, sym h.depth i)) pool.known;
+    samplers = subst (λ (x : WorkerPoolView F). AreSamplersOf x.shape x.depth x.width x.height x.crew.samplers x.samplers)
         (λ i. record k {
           shape = sym h.shape i;
           depth = sym h.depth i;
@@ -92,27 +92,27 @@ module _ {F : Type 0} (g : FileMeanings F) where
           height = sym h.height i;
           crew = sym h.crew i;
           samplers = sym h.samplers i;
-        }) kit.samplers;
-    sides = subst (λ (x : ℕ × ℕ). ArePictureSides x.0 x.1) (λ i. (sym h.width i, sym h.height i)) kit.sides;
-    counts = ap length h.counts ∙ kit.counts ∙ ap pages_of (sym h.shape);
+        }) pool.samplers;
+    sides = subst (λ (x : ℕ × ℕ). ArePictureSides x.0 x.1) (λ i. (sym h.width i, sym h.height i)) pool.sides;
+    counts = ap length h.counts ∙ pool.counts ∙ ap pages_of (sym h.shape);
     buffers = buffers;
   }
 
-  -- so does a kit with its streamer
-  pub fit_still : (words : WordsValue) (v w : StreamerView) (k l : KitView F) → w ≡ record v { spare = w.spare } → IsSameKit g k l → IsFitKit g words v k
-      → All (λ b. length b.elements ≡ tile_length l.shape l.depth) l.round.buffers.elements → IsFitKit g words w l
+  -- so does a pool with its streamer
+  pub fit_still : (words : WordsValue) (v w : StreamerView) (k l : WorkerPoolView F) → w ≡ record v { spare = w.spare } → IsSamePool g k l → IsFitPool g words v k
+      → All (λ b. length b.elements ≡ tile_length l.shape l.depth) l.round.buffers.elements → IsFitPool g words w l
   fit_still words v w k l same h fit buffers = record {
     of = streamer_still words v w same fit.of;
     shape = ap (λ (u : StreamerView). u.shape) same ∙ fit.shape ∙ sym h.shape;
     samplers = fit.samplers ∙ ap (λ (crew : Crew). crew.samplers) (sym h.crew);
     stored = subst (λ (x : StreamerView × Shape × ℕ × Option (List ℕ)). AreStored x.1 x.2 x.3 x.0.writer.journal x.0.writer.contents)
-        (λ i. (sym same i, sym h.shape i, sym h.depth i, sym (told_same g k.stores l.stores h.stores) i)) fit.stored;
-    kit = kit_still k l h fit.kit buffers;
+        (λ i. (sym same i, sym h.shape i, sym h.depth i, sym (known_same g k.stores l.stores h.stores) i)) fit.stored;
+    pool = pool_still k l h fit.pool buffers;
   }
 
   -- what is the same but for its room stays so with other requests
-  pub same_asked : (k l m : KitView F) → IsSameKit g k l → m ≡ record l { round = m.round } → IsSameKit g k m
-  same_asked k l m h rest = subst (IsSameKit g k) (sym rest) (record {
+  pub same_asked : (k l m : WorkerPoolView F) → IsSamePool g k l → m ≡ record l { round = m.round } → IsSamePool g k m
+  same_asked k l m h rest = subst (IsSamePool g k) (sym rest) (record {
     shape = h.shape;
     depth = h.depth;
     width = h.width;
@@ -123,12 +123,12 @@ module _ {F : Type 0} (g : FileMeanings F) where
     stores = h.stores;
   })
 
-  pub prepared_with : (words : WordsValue) (v w : StreamerView) (answers : QueuePass Loaded) (report : StreamReport) (q : Queues) (k l : KitView F)
-      (batch : List Planned) → w ≡ record v { spare = w.spare } → IsSameKit g k l → IsIdleKit g words v k
+  pub prepared_with : (words : WordsValue) (v w : StreamerView) (answers : QueuePass Loaded) (report : StreamReport) (q : Queues) (k l : WorkerPoolView F)
+      (batch : List Planned) → w ≡ record v { spare = w.spare } → IsSamePool g k l → IsIdlePool g words v k
       → IsBatchFor v.shape (length v.owners) (newest v.writer.journal) batch → length batch ≤ k.crew.batch → 2 * length batch ≤ w.spare
       → IsBlank (length batch) report → report.events.elements ≡ [] → HasRoom l
       → All (λ store. l.crew.batch ≤ g.spare store.file) l.stores → IsSetUp q l.round answers (tile_length l.shape l.depth) l.crew (length batch)
-      → IsPreparedKit g words q (record { streamer = w; answers = answers; report = report }) l batch
+      → IsPreparedPool g words q (record { streamer = w; answers = answers; report = report }) l batch
   prepared_with words v w answers report q k l batch same h idle lawful few spare blank no_events room reads set_up = record {
     fit = fit_still words v w k l same h idle.fit set_up.places.sizes;
     lawful = subst (λ (u : StreamerView). IsBatchFor u.shape (length u.owners) (newest u.writer.journal) batch) (sym same) lawful;
@@ -140,28 +140,28 @@ module _ {F : Type 0} (g : FileMeanings F) where
     queued = set_up;
   }
 
-  -- the pages of the batch for which a kit is prepared are the texture's
-  pub pages_inside : (words : WordsValue) (q : Queues) (t : WordStreamer) (k : KitView F) (batch : List Planned) → IsPreparedKit g words q t k batch
+  -- the pages of the batch for which a pool is prepared are the texture's
+  pub pages_inside : (words : WordsValue) (q : Queues) (t : WordStreamer) (k : WorkerPoolView F) (batch : List Planned) → IsPreparedPool g words q t k batch
       → All (λ e. e.page < pages_of k.shape) batch
   pages_inside words q t k batch h j e inside = subst (λ (s : Shape). (get_or batch j e).page < pages_of s) h.fit.shape (h.lawful.each j e inside).page_inside
 
-  -- a kit that was prepared has asked once the requests were put
-  pub once_asked : (words : WordsValue) (q : Queues) (t : WordStreamer) (k l : KitView F) (batch : List Planned) → l ≡ record k { round = l.round }
-      → IsPreparedKit g words q t k batch → IsAsked q l.round t.answers k.shape k.depth k.crew batch → IsAskedKit g words q t l batch
-  once_asked words q t k l batch rest h asked = subst (λ (x : KitView F). IsAskedKit g words q t x batch) (sym rest) (record {
+  -- a pool that was prepared has asked once the requests were put
+  pub once_asked : (words : WordsValue) (q : Queues) (t : WordStreamer) (k l : WorkerPoolView F) (batch : List Planned) → l ≡ record k { round = l.round }
+      → IsPreparedPool g words q t k batch → IsAsked q l.round t.answers k.shape k.depth k.crew batch → IsAskedPool g words q t l batch
+  once_asked words q t k l batch rest h asked = subst (λ (x : WorkerPoolView F). IsAskedPool g words q t x batch) (sym rest) (record {
     fit = record {
       of = h.fit.of;
       shape = h.fit.shape;
       samplers = h.fit.samplers;
       stored = h.fit.stored;
-      kit = record {
-        crew = h.fit.kit.crew;
-        depth = h.fit.kit.depth;
-        stores = h.fit.kit.stores;
-        told = h.fit.kit.told;
-        samplers = h.fit.kit.samplers;
-        sides = h.fit.kit.sides;
-        counts = h.fit.kit.counts;
+      pool = record {
+        crew = h.fit.pool.crew;
+        depth = h.fit.pool.depth;
+        stores = h.fit.pool.stores;
+        known = h.fit.pool.known;
+        samplers = h.fit.pool.samplers;
+        sides = h.fit.pool.sides;
+        counts = h.fit.pool.counts;
         buffers = asked.sizes;
       };
     };

@@ -12,10 +12,10 @@ pub use Rattle.vt_loading.specs.Passes
 pub use Rattle.vt_loading.specs.PlanTypes
 pub use Rattle.vt_loading.specs.Requests
 pub use Rattle.vt_loading.specs.RequestsTypes
-pub use Rattle.vt_loading.specs.RoundKits
+pub use Rattle.vt_loading.specs.RoundStocks
 pub use Rattle.vt_loading.specs.Sizes
 pub use Rattle.vt_loading.specs.StreamBacks
-pub use Rattle.vt_loading.specs.StreamKits
+pub use Rattle.vt_loading.specs.LoaderPools
 pub use Rattle.vt_word_samplers.specs.Banks
 pub use Rattle.vt_word_samplers.specs.DealtRows
 pub use Rattle.vt_word_samplers.specs.Fills
@@ -36,5 +36,5 @@ pub use Rattle.vt_word_samplers.specs.WordSamplers
 pub use Rattle.vt_word_samplers.specs.declared as SamplerTypes
 pub mod WordTasks
 pub mod HeldPasses
-pub mod Kits
-pub mod KitPasses
+pub mod WorkerPools
+pub mod PoolPasses

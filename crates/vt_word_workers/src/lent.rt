@@ -60,11 +60,11 @@ impl<'a, P: Filter + Sync> Task<LentShared<'a, P>> for WordSampler {
 }
 
 impl<'a, P: Filter + Sync> Task<LentShared<'a, P>> for WordStreamer {
-    ghost use Rattle.vt_word_workers.specs.WordTasks.{MayStream, HasFed};
+    ghost use Rattle.vt_word_workers.specs.WordTasks.{MayStream, HasStreamedWords};
 
     ghost ready = { λ shared job task. MayStream shared.words.now shared.queues.now job.batch task };
 
-    ghost did = { λ shared job before after. HasFed shared.words.now shared.queues.now job.batch before after };
+    ghost did = { λ shared job before after. HasStreamedWords shared.words.now shared.queues.now job.batch before after };
 
     fn work<Rt: Threads + Wait, G: Gate>(
         &mut self,

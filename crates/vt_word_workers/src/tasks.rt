@@ -1,7 +1,7 @@
 //! What samplers and streamer of a pass over shared words do.
 
 ghost use Rattle.vt_word_samplers.specs.SamplerTasks.{MayDraw, HasDrawn};
-ghost use Rattle.vt_word_workers.specs.WordTasks.{MayStream, HasFed};
+ghost use Rattle.vt_word_workers.specs.WordTasks.{MayStream, HasStreamedWords};
 
 use crate::shared::WordShared;
 use crate::workers::WordStreamer;
@@ -22,7 +22,7 @@ pub fn stream_own<Rt: Threads + Wait, G: Gate>(
     gate: &G,
 )
     requires { MayStream words.now queues.now batch.now task.old }
-    ensures { HasFed words.now queues.now batch.now task.old task.new }
+    ensures { HasStreamedWords words.now queues.now batch.now task.old task.new }
 {
     stream_batch(
         rt,
@@ -56,7 +56,7 @@ impl<P: Filter + Sync> Task<WordShared<P>> for WordSampler {
 impl<P: Filter + Sync> Task<WordShared<P>> for WordStreamer {
     ghost ready = { λ shared job task. MayStream shared.words shared.queues job.batch task };
 
-    ghost did = { λ shared job before after. HasFed shared.words shared.queues job.batch before after };
+    ghost did = { λ shared job before after. HasStreamedWords shared.words shared.queues job.batch before after };
 
     fn work<Rt: Threads + Wait, G: Gate>(
         &mut self,

@@ -83,7 +83,7 @@ fn main(rt: HostRuntime) -> ExitCode {
         Ok(words) => words,
         Err(error) => {
             let refusal = unread(&error);
-            refusal.tell(usage_line(), &mut err);
+            refusal.print(usage_line(), &mut err);
             return ExitCode::from(refusal.status());
         }
     };

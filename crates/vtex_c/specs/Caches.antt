@@ -8,7 +8,7 @@ use Rattle.vt_residency.specs.Levels.{IsLevelTable, HasLevelLength}
 use Rattle.vt_residency.specs.Loads.{HasLoads}
 use Rattle.vt_residency.specs.Needs.{state_for}
 use Rattle.vt_residency.specs.Places.{IsPlaceOf}
-use Rattle.vt_residency.specs.Residencies.{ResidencyView, IsPassed, IsKept, IsCommitted, IsInfo, first_residency}
+use Rattle.vt_residency.specs.Residencies.{ResidencyView, IsPassed, IsResidencyKept, IsCommitted, IsInfo, first_residency}
 use Rattle.vt_residency.specs.Tallies.{IsPageOrNone}
 use Rattle.vt_residency.specs.declared.changes.Change.{Change}
 use Rattle.vt_residency.specs.declared.feedback.Listed.{Listed}
@@ -17,7 +17,7 @@ use Rattle.vt_residency.specs.declared.places.Place.{Place}
 use Rattle.vt_residency.specs.declared.residency.Info.{Info}
 use Rattle.vtex_c.specs.declared.cache.Cache.{Cache}
 use Rattle.vtex_c.specs.declared.shape.VtexShape.{VtexShape}
-use Rattle.vtex_c.specs.Statuses.{IsRefused}
+use Rattle.vtex_c.specs.Statuses.{IsShapeRefused}
 use Rattle.vtex_c.specs.Shapes.{shape_in}
 
 -- there is a residency before and after, and the two are related
@@ -32,9 +32,9 @@ Holding P None = ⊥
 Holding P (Some a) = P a
 
 -- a cache was opened: 0; else it is as it was, and the shape was refused: 1; the numbers of frames or of pinned pages were: 2; memory was: 3
-pub record IsOpened (old : Cache) (s : VtexShape) (frames pinned status : ℕ) (new : Cache) : Type 0 where
+pub record IsCacheOpened (old : Cache) (s : VtexShape) (frames pinned status : ℕ) (new : Cache) : Type 0 where
   pub opened : status ≡ 0 → new.inner ≡ Some (first_residency (shape_in s) frames pinned)
-  pub refused : status ≡ 1 → IsRefused (shape_in s)
+  pub refused : status ≡ 1 → IsShapeRefused (shape_in s)
   pub unframed : status ≡ 2 → frames ≤ most_frames → 1 ≤ pinned → pinned ≤ frames → pinned ≤ pages_of (shape_in s) → ⊥
   pub statuses : status < 4
   pub kept : (status ≡ 0 → ⊥) → new.inner ≡ old.inner
@@ -58,7 +58,7 @@ pub record IsPassedBy (old : Cache) (pixels : ℕ → ℕ) (Fits : ResidencyView
   pub planned : status ≡ 0 → Between (λ a b. IsPassed a pixels q b) old.inner new.inner
   pub unfit : status ≡ 2 → Holding (λ a. Fits a → ⊥) old.inner
   pub same : status ≡ 2 → new.inner ≡ old.inner
-  pub kept : status ≡ 3 → Between IsKept old.inner new.inner
+  pub kept : status ≡ 3 → Between IsResidencyKept old.inner new.inner
   pub closed : status ≡ 4 → (old.inner ≡ None) × (new.inner ≡ None)
 
 -- the loads that are under way were listed, or there is no residency
@@ -78,14 +78,14 @@ pub record IsSettledBy (old : Cache) (states : List ℕ) (status : ℕ) (new : C
   pub gone : status ≡ 3 → new.inner ≡ None
   pub closed : status ≡ 4 → (old.inner ≡ None) × (new.inner ≡ None)
 
--- a number was told for each load that is under way, by what wanted pages need: 0; they are no pages, or there is not a byte for each load: 2;
+-- a number was answered for each load that is under way, by what wanted pages need: 0; they are no pages, or there is not a byte for each load: 2;
 -- there is no residency: 4
 pub record AreStates (old : Cache) (wanted before : List ℕ) (status : ℕ) (after : List ℕ) (new : Cache) : Type 0 where
   pub same : new ≡ old
   pub long : length after ≡ length before
   pub statuses : (status < 5) × (status ≡ 1 → ⊥) × (status ≡ 3 → ⊥)
   pub fits : status ≡ 0 → Holding (λ a. ArePages wanted a × (length before ≡ length a.loads)) old.inner
-  pub told : status ≡ 0 → Holding (λ a. after ≡ map (state_for a.table.shape wanted) a.loads) old.inner
+  pub answered : status ≡ 0 → Holding (λ a. after ≡ map (state_for a.table.shape wanted) a.loads) old.inner
   pub unfit : status ≡ 2 → Holding (λ a. ArePages wanted a → length before ≡ length a.loads → ⊥) old.inner
   pub closed : status ≡ 4 → old.inner ≡ None
   pub kept : (status ≡ 0 → ⊥) → after ≡ before
@@ -107,21 +107,21 @@ pub record IsLookedUp (old : Cache) (page : ℕ) (before : Place) (status : ℕ)
   pub closed : status ≡ 4 → old.inner ≡ None
   pub kept : (status ≡ 0 → ⊥) → after ≡ before
 
--- the page table of a level was told: 0; there is no such level, or the list is not as long: 2; there is no residency: 4
-pub record IsTabled (old : Cache) (level : ℕ) (before : List ℕ) (status : ℕ) (after : List ℕ) (new : Cache) : Type 0 where
+-- the page table of a level was answered: 0; there is no such level, or the list is not as long: 2; there is no residency: 4
+pub record IsLevelListed (old : Cache) (level : ℕ) (before : List ℕ) (status : ℕ) (after : List ℕ) (new : Cache) : Type 0 where
   pub same : new ≡ old
   pub long : length after ≡ length before
   pub statuses : (status < 5) × (status ≡ 1 → ⊥) × (status ≡ 3 → ⊥)
-  pub told : status ≡ 0 → Holding (λ a. IsLevelTable a.table.shape a.table.entries level after) old.inner
+  pub answered : status ≡ 0 → Holding (λ a. IsLevelTable a.table.shape a.table.entries level after) old.inner
   pub unfit : status ≡ 2 → Holding (λ a. HasLevelLength a.table.shape level (length before) → ⊥) old.inner
   pub closed : status ≡ 4 → old.inner ≡ None
   pub kept : (status ≡ 0 → ⊥) → after ≡ before
 
--- the numbers of a residency were told: 0; there is none: 4
-pub record IsTold (old : Cache) (before : Info) (status : ℕ) (after : Info) (new : Cache) : Type 0 where
+-- the numbers of a residency were answered: 0; there is none: 4
+pub record IsInfoAnswer (old : Cache) (before : Info) (status : ℕ) (after : Info) (new : Cache) : Type 0 where
   pub same : new ≡ old
   pub statuses : (status < 5) × (status ≡ 1 → ⊥) × (status ≡ 2 → ⊥) × (status ≡ 3 → ⊥)
-  pub told : status ≡ 0 → Holding (λ a. IsInfo a after) old.inner
+  pub answered : status ≡ 0 → Holding (λ a. IsInfo a after) old.inner
   pub closed : status ≡ 4 → old.inner ≡ None
   pub kept : (status ≡ 0 → ⊥) → after ≡ before
 

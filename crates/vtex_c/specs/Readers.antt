@@ -8,31 +8,31 @@ use Rattle.vt_residency.specs.declared.places.Place.{Place}
 use Rattle.vt_texel_runs.specs.declared.points.Point.{Point}
 use Rattle.vt_texel_runs.specs.declared.spans.Span.{Span}
 use Rattle.vt_texel_runs.specs.Points.{IsPoint}
-use Rattle.vt_shared.specs.Readers.{ReaderView, HoldsOne, HoldsNone, HasTakenHold, HasReleased, HasLookedUp, HasRead, HasReadRun, HasBlendedRun}
-use Rattle.vt_texel_runs.specs.Spans.{IsRun}
+use Rattle.vt_shared.specs.Readers.{SharedReaderView, HoldsOne, HoldsNone, HasTakenHold, HasReleased, HasLookedUp, HasReadTexels, HasReadRun, HasBlendedRun}
+use Rattle.vt_texel_runs.specs.Spans.{IsSpanInside}
 use Rattle.vtex_c.specs.declared.reader.ReaderPlace.{ReaderPlace}
 
 -- there is a reader before and after, and the two are related
-abbrev pub Between : (ReaderView → ReaderView → Type 0) → Option ReaderView → Option ReaderView → Type 0
+abbrev pub Between : (SharedReaderView → SharedReaderView → Type 0) → Option SharedReaderView → Option SharedReaderView → Type 0
 Between P None new = ⊥
 Between P (Some a) None = ⊥
 Between P (Some a) (Some b) = P a b
 
 -- there is a reader, of which this holds
-abbrev pub Holding : (ReaderView → Type 0) → Option ReaderView → Type 0
+abbrev pub Holding : (SharedReaderView → Type 0) → Option SharedReaderView → Type 0
 Holding P None = ⊥
 Holding P (Some a) = P a
 
--- the reader's number was told: 0; the reader is closed: 4
-pub record IsNumbered (old : ReaderPlace) (before status told : ℕ) (new : ReaderPlace) : Type 0 where
+-- the reader's number was answered: 0; the reader is closed: 4
+pub record IsNumbered (old : ReaderPlace) (before status answered : ℕ) (new : ReaderPlace) : Type 0 where
   pub same : new ≡ old
   pub statuses : (status ≡ 0) ⊎ (status ≡ 4)
-  pub number : status ≡ 0 → Holding (λ a. told ≡ a.sampler) old.inner
+  pub number : status ≡ 0 → Holding (λ a. answered ≡ a.sampler) old.inner
   pub closed : status ≡ 4 → old.inner ≡ None
-  pub kept : (status ≡ 0 → ⊥) → told ≡ before
+  pub kept : (status ≡ 0 → ⊥) → answered ≡ before
 
 -- the newest version is held: 0; the reader is closed: 4; it holds one already: 7
-pub record IsHeld (old : ReaderPlace) (before status version : ℕ) (new : ReaderPlace) : Type 0 where
+pub record IsNewestHeld (old : ReaderPlace) (before status version : ℕ) (new : ReaderPlace) : Type 0 where
   pub statuses : (status ≡ 0) ⊎ (status ≡ 4) ⊎ (status ≡ 7)
   pub held : status ≡ 0 → Between (λ a b. HasTakenHold a b version) old.inner new.inner
   pub same : (status ≡ 0 → ⊥) → new ≡ old
@@ -56,7 +56,7 @@ pub record IsFoundUnder (old : ReaderPlace) (page : ℕ) (before : Place) (statu
   pub held_none : status ≡ 7 → Holding HoldsNone old.inner
 
 -- the points are the texture's, and the room is as long as their texels
-pub record AreFit (points : List Point) (bytes : ℕ) (r : ReaderView) : Type 0 where
+pub record AreFit (points : List Point) (bytes : ℕ) (r : SharedReaderView) : Type 0 where
   pub inside : All (IsPoint r.shape) points
   pub room : bytes ≡ texel_length r.depth * length points
   pub few : length points < 4294967296
@@ -66,7 +66,7 @@ pub record IsRead (old : ReaderPlace) (points : List Point) (before : List ℕ) 
   pub long : length after ≡ length before
   pub statuses : (status ≡ 0) ⊎ (status ≡ 2) ⊎ (status ≡ 4) ⊎ (status ≡ 7)
   pub inside : status ≡ 0 → Holding (AreFit points (length before)) old.inner
-  pub read : status ≡ 0 → Between (λ a b. HasRead a b points after) old.inner new.inner
+  pub read : status ≡ 0 → Between (λ a b. HasReadTexels a b points after) old.inner new.inner
   pub unfit : status ≡ 2 → Holding (λ a. AreFit points (length before) a → ⊥) old.inner
   pub same : (status ≡ 0 → ⊥) → new ≡ old
   pub kept : (status ≡ 0 → ⊥) → after ≡ before
@@ -74,13 +74,13 @@ pub record IsRead (old : ReaderPlace) (points : List Point) (before : List ℕ) 
   pub held_none : status ≡ 7 → Holding HoldsNone old.inner
 
 -- the points of a run are the texture's, the room is as long as its texels, and there is a page for each
-pub record IsFit (span : Span) (bytes pages : ℕ) (r : ReaderView) : Type 0 where
-  pub inside : IsRun r.shape span
+pub record IsFit (span : Span) (bytes pages : ℕ) (r : SharedReaderView) : Type 0 where
+  pub inside : IsSpanInside r.shape span
   pub room : bytes ≡ texel_length r.depth * span.count
   pub each : pages ≡ span.count
 
 -- a run of texels was read in some way: 0; a point is outside, or a room has another length: 2; the reader is closed: 4; it holds nothing: 7
-pub record IsRunReadBy (Reads : ReaderView → ReaderView → Span → List ℕ → List ℕ → Type 0) (old : ReaderPlace) (span : Span) (before was : List ℕ)
+pub record IsRunReadBy (Reads : SharedReaderView → SharedReaderView → Span → List ℕ → List ℕ → Type 0) (old : ReaderPlace) (span : Span) (before was : List ℕ)
     (status : ℕ) (after are : List ℕ) (new : ReaderPlace) : Type 0 where
   pub long : length after ≡ length before
   pub wide : length are ≡ length was

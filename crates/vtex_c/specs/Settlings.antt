@@ -2,7 +2,7 @@
 use Rattle.std.specs.Prelude.{◌≡◌, ℕ, zero, suc, ◌+◌, ◌*◌, ◌≤◌, ◌⊎◌, None, Some, List, length, slice_get, slice_range}
 use Rattle.vt_journal.specs.Changes.{newest}
 use Rattle.vt_tiles.specs.Format.{tile_length}
-use Rattle.vt_shared.specs.Owners.{OwnerView, HasWritten, AwaitsBank, AwaitsEither}
+use Rattle.vt_shared.specs.Owners.{OwnerView, HasWrittenFrame, AwaitsBank, AwaitsEither}
 use Rattle.vtex_c.specs.declared.settle.VtexStep.{VtexStep}
 use Rattle.vtex_c.specs.declared.table.TablePlace.{TablePlace}
 use Rattle.vtex_c.specs.declared.table.VtexWaiting.{VtexWaiting}
@@ -22,13 +22,13 @@ pub record MayMake (tiles : List ℕ) (s : VtexStep) (o : OwnerView) : Type 0 wh
   pub at : s.mapped ≡ 0 → newest o.streamer.writer.journal s.page ≡ Some s.frame
 
 -- a step was made, in the next version
-pub record HasMade (tiles : List ℕ) (s : VtexStep) (a b : OwnerView) : Type 0 where
+pub record HasMadeStep (tiles : List ℕ) (s : VtexStep) (a b : OwnerView) : Type 0 where
   pub put : (s.mapped ≡ 0 → ⊥) → HasMappedPage s.page s.frame (tile_at a tiles s.tile) a b
   pub left : s.mapped ≡ 0 → HasLeftFrame s.page s.frame a b
 
 -- whom a step waits for, and that it wrote no frame but its own, and that only where it may
 pub record AwaitsStep (s : VtexStep) (a b : OwnerView) (who : VtexWaiting) : Type 0 where
-  pub written : (s.mapped ≡ 0 → ⊥) → HasWritten a.streamer s.frame b.streamer
+  pub written : (s.mapped ≡ 0 → ⊥) → HasWrittenFrame a.streamer s.frame b.streamer
   pub unwritten : s.mapped ≡ 0 → b.streamer.writer.texels ≡ a.streamer.writer.texels
   pub put : (s.mapped ≡ 0 → ⊥) → AwaitsEither a.streamer s.frame b.streamer who.reader who.version
   pub left : s.mapped ≡ 0 → AwaitsBank a.streamer b.streamer who.reader who.version
@@ -37,7 +37,7 @@ pub record AwaitsStep (s : VtexStep) (a b : OwnerView) (who : VtexWaiting) : Typ
 pub record IsMade (tiles : List ℕ) (s : VtexStep) (a : OwnerView) (before : VtexWaiting) (status : ℕ) (after : VtexWaiting) (b : OwnerView) : Type 0 where
   pub statuses : (status ≡ 0) ⊎ (status ≡ 2) ⊎ (status ≡ 6)
   pub inside : status ≡ 0 → MayMake tiles s a
-  pub made : status ≡ 0 → HasMade tiles s a b
+  pub made : status ≡ 0 → HasMadeStep tiles s a b
   pub unfit : status ≡ 2 → MayMake tiles s a → ⊥
   pub same : status ≡ 2 → b ≡ a
   pub waits : status ≡ 6 → HasNoVersion a b
@@ -66,7 +66,7 @@ pub record IsTakenOut (page frame : ℕ) (a : OwnerView) (before : VtexWaiting) 
 abbrev pub AreMade : List VtexStep → List ℕ → ℕ → OwnerView → OwnerView → Type 0
 AreMade steps tiles zero a b = b ≡ a
 AreMade steps tiles (suc n) a b = (s : VtexStep) × (between : OwnerView) × (slice_get steps n ≡ Some s) × AreMade steps tiles n a between
-    × MayMake tiles s between × HasMade tiles s between b
+    × MayMake tiles s between × HasMadeStep tiles s between b
 
 -- after so many steps the next one is none that can be made
 pub record StopsAt (steps : List VtexStep) (tiles : List ℕ) (made : ℕ) (a b : OwnerView) : Type 0 where

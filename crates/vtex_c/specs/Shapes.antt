@@ -7,7 +7,7 @@ use Rattle.vt_residency.specs.Levels.{IsLevelOf}
 use Rattle.vt_residency.specs.declared.levels.Level.{Level}
 use Rattle.vtex_c.specs.declared.shape.VtexName.{VtexName}
 use Rattle.vtex_c.specs.declared.shape.VtexShape.{VtexShape}
-use Rattle.vtex_c.specs.Statuses.{IsRefused}
+use Rattle.vtex_c.specs.Statuses.{IsShapeRefused}
 
 -- the shape of the three numbers
 abbrev pub shape_in : VtexShape → Shape
@@ -26,13 +26,13 @@ abbrev pub page_in : Option ℕ → ℕ
 page_in None = 4294967295
 page_in (Some p) = p
 
--- a level was told: 0; the shape is refused: 1; it has no such level: 2
-pub record IsLevelTold (shape : VtexShape) (level : ℕ) (old : Level) (status : ℕ) (new : Level) : Type 0 where
+-- a level was answered: 0; the shape is refused: 1; it has no such level: 2
+pub record IsLevelAnswer (shape : VtexShape) (level : ℕ) (old : Level) (status : ℕ) (new : Level) : Type 0 where
   pub statuses : status < 3
   pub lawful : status ≡ 0 → IsWithinLimits (shape_in shape)
   pub inside : status ≡ 0 → level < levels_of (shape_in shape)
-  pub told : status ≡ 0 → IsLevelOf (shape_in shape) level new
-  pub refused : status ≡ 1 → IsRefused (shape_in shape)
+  pub answered : status ≡ 0 → IsLevelOf (shape_in shape) level new
+  pub refused : status ≡ 1 → IsShapeRefused (shape_in shape)
   pub outside : status ≡ 2 → level < levels_of (shape_in shape) → ⊥
   pub kept : (status ≡ 0 → ⊥) → new ≡ old
 
@@ -42,16 +42,16 @@ pub record IsNamed (shape : VtexShape) (page : ℕ) (old : VtexName) (status : �
   pub lawful : status ≡ 0 → IsWithinLimits (shape_in shape)
   pub inside : status ≡ 0 → page < pages_of (shape_in shape)
   pub named : status ≡ 0 → name_in new ≡ name_at (shape_in shape) page
-  pub refused : status ≡ 1 → IsRefused (shape_in shape)
+  pub refused : status ≡ 1 → IsShapeRefused (shape_in shape)
   pub outside : status ≡ 2 → page < pages_of (shape_in shape) → ⊥
   pub kept : (status ≡ 0 → ⊥) → new ≡ old
 
--- the page of a name was told: 0; the shape is refused: 1; no page has this name: 2
-pub record IsPageTold (shape : VtexShape) (name : VtexName) (old status new : ℕ) : Type 0 where
+-- the page of a name was answered: 0; the shape is refused: 1; no page has this name: 2
+pub record IsPageAnswer (shape : VtexShape) (name : VtexName) (old status new : ℕ) : Type 0 where
   pub statuses : status < 3
   pub lawful : status ≡ 0 → IsWithinLimits (shape_in shape)
   pub inside : status ≡ 0 → IsPage (shape_in shape) (name_in name)
   pub page : status ≡ 0 → new ≡ index_of (shape_in shape) (name_in name)
-  pub refused : status ≡ 1 → IsRefused (shape_in shape)
+  pub refused : status ≡ 1 → IsShapeRefused (shape_in shape)
   pub outside : status ≡ 2 → IsPage (shape_in shape) (name_in name) → ⊥
   pub kept : (status ≡ 0 → ⊥) → new ≡ old

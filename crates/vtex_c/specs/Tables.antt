@@ -13,15 +13,15 @@ use Rattle.vt_grace.specs.Giving.{after_return}
 use Rattle.vt_lookup.specs.Notes.{IsNotedIn}
 use Rattle.vt_texel_runs.specs.declared.points.Point.{Point}
 use Rattle.vt_shared.specs.Given.{HasTileLength, IsOfItsTile}
-use Rattle.vt_shared.specs.Owners.{OwnerView, HasKept, HasWritten, HasMapped, HasUnmapped, AwaitsBank, AwaitsEither}
+use Rattle.vt_shared.specs.Owners.{OwnerView, HasKeptOwner, HasWrittenFrame, HasMappedNext, HasUnmappedNext, AwaitsBank, AwaitsEither}
 use Rattle.vt_texel_runs.specs.Points.{IsAnswered}
-use Rattle.vt_shared.specs.Readers.{ReaderView, left_by, IsReaderOf, IsAdmitted as IsAdmittedBy}
+use Rattle.vt_shared.specs.Readers.{SharedReaderView, left_by, IsReaderOf, IsAdmitted as IsAdmittedBy}
 use Rattle.vtex_c.specs.declared.shape.VtexShape.{VtexShape}
 use Rattle.vtex_c.specs.declared.table.TablePlace.{TablePlace}
 use Rattle.vtex_c.specs.declared.table.VtexWaiting.{VtexWaiting}
 use Rattle.vtex_c.specs.declared.reader.ReaderPlace.{ReaderPlace}
 use Rattle.vtex_c.specs.Shapes.{shape_in}
-use Rattle.vtex_c.specs.Statuses.{IsRefused}
+use Rattle.vtex_c.specs.Statuses.{IsShapeRefused}
 
 -- there is an owner before and after, and the two are related
 abbrev pub Between : (OwnerView → OwnerView → Type 0) → Option OwnerView → Option OwnerView → Type 0
@@ -44,7 +44,7 @@ pub record AreNumbers (s : Shape) (depth frames readers : ℕ) : Type 0 where
   pub few_readers : readers ≤ most_samplers
 
 -- a new table
-pub record IsNew (s : Shape) (depth frames readers : ℕ) (o : OwnerView) : Type 0 where
+pub record IsNewOwner (s : Shape) (depth frames readers : ℕ) (o : OwnerView) : Type 0 where
   pub shape : o.streamer.shape ≡ s
   pub depth_is : o.depth ≡ depth
   pub writer : o.streamer.writer ≡ first_writer (sizes_of s frames readers)
@@ -53,24 +53,24 @@ pub record IsNew (s : Shape) (depth frames readers : ℕ) (o : OwnerView) : Type
 pub record IsTableOpened (old : TablePlace) (s : VtexShape) (depth frames readers status : ℕ) (new : TablePlace) : Type 0 where
   pub statuses : status < 4
   pub inside : status ≡ 0 → AreNumbers (shape_in s) depth frames readers
-  pub opened : status ≡ 0 → Holding (IsNew (shape_in s) depth frames readers) new.inner
-  pub refused : status ≡ 1 → IsRefused (shape_in s)
+  pub opened : status ≡ 0 → Holding (IsNewOwner (shape_in s) depth frames readers) new.inner
+  pub refused : status ≡ 1 → IsShapeRefused (shape_in s)
   pub unfit : status ≡ 2 → AreNumbers (shape_in s) depth frames readers → ⊥
   pub kept : (status ≡ 0 → ⊥) → new ≡ old
 
 -- a page was mapped, with the words of a tile, in the next version
 pub record HasMappedPage (page frame : ℕ) (tile : List ℕ) (a b : OwnerView) : Type 0 where
   pub rest : b ≡ record a { streamer = b.streamer }
-  pub kept : HasKept a.streamer b.streamer
-  pub written : HasWritten a.streamer frame b.streamer
-  pub mapped : HasMapped a.streamer page frame tile b.streamer
+  pub kept : HasKeptOwner a.streamer b.streamer
+  pub written : HasWrittenFrame a.streamer frame b.streamer
+  pub mapped : HasMappedNext a.streamer page frame tile b.streamer
 
 -- a page was taken out of a frame, in the next version
 pub record HasLeftFrame (page frame : ℕ) (a b : OwnerView) : Type 0 where
   pub rest : b ≡ record a { streamer = b.streamer }
-  pub kept : HasKept a.streamer b.streamer
+  pub kept : HasKeptOwner a.streamer b.streamer
   pub written : b.streamer.writer.texels ≡ a.streamer.writer.texels
-  pub unmapped : HasUnmapped a.streamer page frame b.streamer
+  pub unmapped : HasUnmappedNext a.streamer page frame b.streamer
 
 -- a page was taken out of the frame that it had
 pub record HasUnmappedPage (page : ℕ) (a b : OwnerView) : Type 0 where
@@ -81,7 +81,7 @@ pub record HasUnmappedPage (page : ℕ) (a b : OwnerView) : Type 0 where
 -- there is no new version
 pub record HasNoVersion (a b : OwnerView) : Type 0 where
   pub rest : b ≡ record a { streamer = b.streamer }
-  pub kept : HasKept a.streamer b.streamer
+  pub kept : HasKeptOwner a.streamer b.streamer
   pub journal : b.streamer.writer.journal ≡ a.streamer.writer.journal
   pub contents : b.streamer.writer.contents ≡ a.streamer.writer.contents
 
@@ -111,13 +111,13 @@ pub record IsPut (a : OwnerView) (page frame : ℕ) (tile : List ℕ) (before : 
   pub unfit : status ≡ 2 → MayMap a page frame (length tile) → ⊥
   pub same : status ≡ 2 → b ≡ a
   pub waits : status ≡ 6 → HasNoVersion a b
-  pub wrote : status ≡ 6 → HasWritten a.streamer frame b.streamer
+  pub wrote : status ≡ 6 → HasWrittenFrame a.streamer frame b.streamer
   pub awaited : status ≡ 6 → AwaitsEither a.streamer frame b.streamer after.reader after.version
   pub kept : (status ≡ 6 → ⊥) → after ≡ before
 
 -- in an open table a page was taken out of the frame that it had: 0; a reader may still hold a version that needs the bank, and it is told
 -- which: 6
-pub record IsLeft (a : OwnerView) (page frame : ℕ) (before : VtexWaiting) (status : ℕ) (after : VtexWaiting) (b : OwnerView) : Type 0 where
+pub record IsPageLeft (a : OwnerView) (page frame : ℕ) (before : VtexWaiting) (status : ℕ) (after : VtexWaiting) (b : OwnerView) : Type 0 where
   pub statuses : (status ≡ 0) ⊎ (status ≡ 6)
   pub left : status ≡ 0 → HasLeftFrame page frame a b
   pub waits : status ≡ 6 → HasNoVersion a b
@@ -135,7 +135,7 @@ pub record IsMapped (old : TablePlace) (page frame : ℕ) (tile : List ℕ) (bef
   pub same : status ≡ 2 → new ≡ old
   pub closed : status ≡ 4 → (old.inner ≡ None) × (new ≡ old)
   pub waits : status ≡ 6 → Between HasNoVersion old.inner new.inner
-  pub wrote : status ≡ 6 → Between (λ a b. HasWritten a.streamer frame b.streamer) old.inner new.inner
+  pub wrote : status ≡ 6 → Between (λ a b. HasWrittenFrame a.streamer frame b.streamer) old.inner new.inner
   pub awaited : status ≡ 6 → Between (λ a b. AwaitsEither a.streamer frame b.streamer after.reader after.version) old.inner new.inner
   pub kept : (status ≡ 6 → ⊥) → after ≡ before
 
@@ -159,10 +159,10 @@ CannotAdmit o = is_mapped (newest o.streamer.writer.journal) (root_of o.streamer
     → (k : ℕ) → k < o.words.sizes.samplers → is_out o.streamer.writer k ≡ true
 
 -- a reader of the table was opened
-abbrev pub IsNewReader : Option OwnerView → Option ReaderView → Type 0
-IsNewReader None reader = ⊥
-IsNewReader (Some o) None = ⊥
-IsNewReader (Some o) (Some r) = (k : ℕ) × IsAdmittedBy o k r
+abbrev pub IsNewOwnersReader : Option OwnerView → Option SharedReaderView → Type 0
+IsNewOwnersReader None reader = ⊥
+IsNewOwnersReader (Some o) None = ⊥
+IsNewOwnersReader (Some o) (Some r) = (k : ℕ) × IsAdmittedBy o k r
 
 -- nothing but which passes are out, and what is known of readers, differs
 pub record HasSameVersions (a b : OwnerView) : Type 0 where
@@ -171,18 +171,18 @@ pub record HasSameVersions (a b : OwnerView) : Type 0 where
   pub contents : b.streamer.writer.contents ≡ a.streamer.writer.contents
 
 -- a reader was opened: 0; all passes are out, the root is not mapped, or the reader is open: 2; memory was refused: 3; there is no table: 4
-pub record IsAdmitted (old : TablePlace) (before : ReaderPlace) (status : ℕ) (new : TablePlace) (after : ReaderPlace) : Type 0 where
+pub record IsReaderOpened (old : TablePlace) (before : ReaderPlace) (status : ℕ) (new : TablePlace) (after : ReaderPlace) : Type 0 where
   pub statuses : (status ≡ 0) ⊎ (status ≡ 2) ⊎ (status ≡ 3) ⊎ (status ≡ 4)
   pub inside : status ≡ 0 → before.inner ≡ None
   pub rooted : status ≡ 0 → Holding (λ o. is_mapped (newest o.streamer.writer.journal) (root_of o.streamer.shape) ≡ true) old.inner
   pub unfit : status ≡ 2 → before.inner ≡ None → Holding CannotAdmit old.inner
-  pub admitted : status ≡ 0 → IsNewReader old.inner after.inner
+  pub admitted : status ≡ 0 → IsNewOwnersReader old.inner after.inner
   pub versions : status ≡ 0 → Between HasSameVersions old.inner new.inner
   pub kept : (status ≡ 0 → ⊥) → (new ≡ old) × (after ≡ before)
   pub closed : status ≡ 4 → old.inner ≡ None
 
 -- an open reader is one of an open table
-abbrev pub HaveOneTable : Option OwnerView → Option ReaderView → Type 0
+abbrev pub HaveOneTable : Option OwnerView → Option SharedReaderView → Type 0
 HaveOneTable None reader = Unit {0}
 HaveOneTable (Some o) None = Unit {0}
 HaveOneTable (Some o) (Some r) = IsReaderOf o r
@@ -193,7 +193,7 @@ AreOfOneTable t r = HaveOneTable t.inner r.inner
 
 -- what a reader noted was taken in, and all of it is true of the journal: each texel that it was answered under a hold is that of the tile
 -- that was given for the page that was found, in the version that was held
-pub record HasTakenBack (r : ReaderView) (a b : OwnerView) : Type 0 where
+pub record HasTakenBack (r : SharedReaderView) (a b : OwnerView) : Type 0 where
   pub is : b ≡ record a { streamer = record a.streamer { writer = after_return a.streamer.writer (left_by r.stand) } }
   pub sound : IsSound b.streamer.writer
   pub tiles : (version : ℕ) (p : Point) (bytes : List ℕ)
@@ -201,7 +201,7 @@ pub record HasTakenBack (r : ReaderView) (a b : OwnerView) : Type 0 where
       → IsOfItsTile b.streamer.shape b.depth b.streamer.writer.journal b.streamer.writer.contents version p bytes
 
 -- with the reader there was
-abbrev pub TookBack : Option ReaderView → Option OwnerView → Option OwnerView → Type 0
+abbrev pub TookBack : Option SharedReaderView → Option OwnerView → Option OwnerView → Type 0
 TookBack None old new = ⊥
 TookBack (Some r) old new = Between (HasTakenBack r) old new
 

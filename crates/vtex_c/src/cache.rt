@@ -3,7 +3,7 @@
 ghost use Rattle.std.specs.Prelude.{◌≡◌, ◌&&◌, nat_le, map, None, slice_index};
 ghost use Rattle.vt_definitions.specs.Limits.{most_frames};
 ghost use Rattle.vt_residency.specs.Tallies.{pixels_of, one_pixel};
-ghost use Rattle.vtex_c.specs.Caches.{IsOpened, IsPassedBy, AreCounts, AreListed, ArePages, IsListed, AreStates, IsSettledBy, AreChanges, IsLookedUp, IsTabled, IsTold, IsClosed};
+ghost use Rattle.vtex_c.specs.Caches.{IsCacheOpened, IsPassedBy, AreCounts, AreListed, ArePages, IsListed, AreStates, IsSettledBy, AreChanges, IsLookedUp, IsLevelListed, IsInfoAnswer, IsClosed};
 
 use crate::shape::{VtexShape, geometry_of};
 use crate::{BAD_NUMBER, BAD_SHAPE, CLOSED, DONE, NO_MEMORY};
@@ -36,7 +36,7 @@ fn are_frames(frames: u32, pinned: u32, pages: u32) -> bool
 
 /// Opens a residency, in place of the one that there is.
 pub fn open(cache: &mut Cache, shape: &VtexShape, frames: u32, pinned: u32) -> u32
-    ensures { IsOpened cache.old shape.now frames pinned result cache.new }
+    ensures { IsCacheOpened cache.old shape.now frames pinned result cache.new }
 {
     let Some(geometry) = geometry_of(shape) else {
         return BAD_SHAPE;
@@ -188,7 +188,7 @@ pub fn look_up(cache: &mut Cache, page: u32, found: &mut Place) -> u32
 
 /// Writes the entries of a level's pages to a list of as many.
 pub fn table(cache: &mut Cache, level: u32, out: &mut [u32]) -> u32
-    ensures { IsTabled cache.old level out.old result out.new cache.new }
+    ensures { IsLevelListed cache.old level out.old result out.new cache.new }
 {
     match &cache.inner {
         None => CLOSED,
@@ -204,7 +204,7 @@ pub fn table(cache: &mut Cache, level: u32, out: &mut [u32]) -> u32
 
 /// Tells the numbers of the residency.
 pub fn info(cache: &mut Cache, told: &mut Info) -> u32
-    ensures { IsTold cache.old told.old result told.new cache.new }
+    ensures { IsInfoAnswer cache.old told.old result told.new cache.new }
 {
     match &cache.inner {
         None => CLOSED,

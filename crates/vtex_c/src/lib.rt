@@ -19,9 +19,9 @@ ghost use Rattle.vt_pages.specs.Pages.{IsWithinLimits, levels_of, pages_of, pare
 ghost use Rattle.vt_residency.specs.Tallies.{pixels_of, one_pixel};
 ghost use Rattle.vtex_c.specs.contracts.cache.Cache.{the_row};
 ghost use Rattle.vtex_c.specs.declared.cache.Cache.{Cache};
-ghost use Rattle.vtex_c.specs.Caches.{IsOpened, IsPassedBy, AreCounts, AreListed, ArePages, IsListed, AreStates, IsSettledBy, AreChanges, IsLookedUp, IsTabled, IsTold, IsClosed};
-ghost use Rattle.vtex_c.specs.Shapes.{shape_in, page_in, IsLevelTold, IsNamed, IsPageTold};
-ghost use Rattle.vtex_c.specs.Statuses.{IsRefused};
+ghost use Rattle.vtex_c.specs.Caches.{IsCacheOpened, IsPassedBy, AreCounts, AreListed, ArePages, IsListed, AreStates, IsSettledBy, AreChanges, IsLookedUp, IsLevelListed, IsInfoAnswer, IsClosed};
+ghost use Rattle.vtex_c.specs.Shapes.{shape_in, page_in, IsLevelAnswer, IsNamed, IsPageAnswer};
+ghost use Rattle.vtex_c.specs.Statuses.{IsShapeRefused};
 ghost use Rattle.vtex_c.specs.Stores.{IsStoreOpened, IsTileFound};
 
 use cache::Cache;
@@ -52,7 +52,7 @@ const NOT_HELD: u32 = 7;
 pub extern "C" fn vtex_page_count(shape: &VtexShape, pages: &mut u32) -> u32
     ensures lawful { result ≡ 0 → IsWithinLimits (shape_in shape.now) }
     ensures pages { result ≡ 0 → pages.new ≡ pages_of (shape_in shape.now) }
-    ensures refused { (result ≡ 0 → ⊥) → (result ≡ 1) × IsRefused (shape_in shape.now) × (pages.new ≡ pages.old) }
+    ensures refused { (result ≡ 0 → ⊥) → (result ≡ 1) × IsShapeRefused (shape_in shape.now) × (pages.new ≡ pages.old) }
 {
     match geometry_of(shape) {
         Some(geometry) => {
@@ -68,7 +68,7 @@ pub extern "C" fn vtex_page_count(shape: &VtexShape, pages: &mut u32) -> u32
 pub extern "C" fn vtex_level_count(shape: &VtexShape, levels: &mut u32) -> u32
     ensures lawful { result ≡ 0 → IsWithinLimits (shape_in shape.now) }
     ensures levels { result ≡ 0 → levels.new ≡ levels_of (shape_in shape.now) }
-    ensures refused { (result ≡ 0 → ⊥) → (result ≡ 1) × IsRefused (shape_in shape.now) × (levels.new ≡ levels.old) }
+    ensures refused { (result ≡ 0 → ⊥) → (result ≡ 1) × IsShapeRefused (shape_in shape.now) × (levels.new ≡ levels.old) }
 {
     match geometry_of(shape) {
         Some(geometry) => {
@@ -82,7 +82,7 @@ pub extern "C" fn vtex_level_count(shape: &VtexShape, levels: &mut u32) -> u32
 /// The sides, the columns and rows of pages, and the first page of a level.
 #[unsafe(no_mangle)]
 pub extern "C" fn vtex_level(shape: &VtexShape, level: u32, told: &mut Level) -> u32
-    ensures { IsLevelTold shape.now level told.old result told.new }
+    ensures { IsLevelAnswer shape.now level told.old result told.new }
 {
     let Some(geometry) = geometry_of(shape) else {
         return BAD_SHAPE;
@@ -105,7 +105,7 @@ pub extern "C" fn vtex_page_of_texel(
 ) -> u32
     ensures lawful { result ≡ 0 → IsWithinLimits (shape_in shape.now) }
     ensures page { result ≡ 0 → page.new ≡ texel_page (shape_in shape.now) level x y }
-    ensures refused { result ≡ 1 → IsRefused (shape_in shape.now) × (page.new ≡ page.old) }
+    ensures refused { result ≡ 1 → IsShapeRefused (shape_in shape.now) × (page.new ≡ page.old) }
     ensures inside { result ≡ 0 → IsInside (shape_in shape.now) level x y }
     ensures outside { result ≡ 2 → (IsInside (shape_in shape.now) level x y → ⊥) × (page.new ≡ page.old) }
     ensures statuses { result ≤ 2 }
@@ -138,7 +138,7 @@ pub extern "C" fn vtex_page_name(shape: &VtexShape, page: u32, name: &mut VtexNa
 /// The page at a level, a column and a row.
 #[unsafe(no_mangle)]
 pub extern "C" fn vtex_page_at(shape: &VtexShape, name: &VtexName, page: &mut u32) -> u32
-    ensures { IsPageTold shape.now name.now page.old result page.new }
+    ensures { IsPageAnswer shape.now name.now page.old result page.new }
 {
     let Some(geometry) = geometry_of(shape) else {
         return BAD_SHAPE;
@@ -156,7 +156,7 @@ pub extern "C" fn vtex_page_at(shape: &VtexShape, name: &VtexName, page: &mut u3
 pub extern "C" fn vtex_parent(shape: &VtexShape, page: u32, parent: &mut u32) -> u32
     ensures lawful { result ≡ 0 → IsWithinLimits (shape_in shape.now) }
     ensures parent { result ≡ 0 → parent.new ≡ page_in (parent_of (shape_in shape.now) page) }
-    ensures refused { result ≡ 1 → IsRefused (shape_in shape.now) }
+    ensures refused { result ≡ 1 → IsShapeRefused (shape_in shape.now) }
     ensures inside { result ≡ 0 → page < pages_of (shape_in shape.now) }
     ensures outside { result ≡ 2 → pages_of (shape_in shape.now) ≤ page }
     ensures kept { (result ≡ 0 → ⊥) → parent.new ≡ parent.old }
@@ -177,7 +177,7 @@ pub extern "C" fn vtex_parent(shape: &VtexShape, page: u32, parent: &mut u32) ->
 pub extern "C" fn vtex_pinned_count(shape: &VtexShape, levels: u32, pages: &mut u32) -> u32
     ensures lawful { result ≡ 0 → IsWithinLimits (shape_in shape.now) }
     ensures pages { result ≡ 0 → pages.new ≡ pinned_of (shape_in shape.now) levels }
-    ensures refused { (result ≡ 0 → ⊥) → (result ≡ 1) × IsRefused (shape_in shape.now) × (pages.new ≡ pages.old) }
+    ensures refused { (result ≡ 0 → ⊥) → (result ≡ 1) × IsShapeRefused (shape_in shape.now) × (pages.new ≡ pages.old) }
 {
     match geometry_of(shape) {
         Some(geometry) => {
@@ -237,7 +237,7 @@ pub unsafe extern "C" fn vtex_cache_open(
 ) -> u32
     ghost c: { Cache }
     requires* { sem 𝓛 (lies_at the_row full_share at c) }
-    ensures* { ∃ₛ (λ (d : Cache). sem 𝓛 (lies_at the_row full_share at d) ∗ ⌜ IsOpened c shape.now frames pinned result d ⌝) }
+    ensures* { ∃ₛ (λ (d : Cache). sem 𝓛 (lies_at the_row full_share at d) ∗ ⌜ IsCacheOpened c shape.now frames pinned result d ⌝) }
 {
     cache::open(&mut *(at as *mut Cache), shape, frames, pinned)
 }
@@ -331,7 +331,7 @@ pub unsafe extern "C" fn vtex_cache_look_up(at: *mut VtexCache, page: u32, found
 pub unsafe extern "C" fn vtex_cache_table(at: *mut VtexCache, level: u32, out: &mut [u32]) -> u32
     ghost c: { Cache }
     requires* { sem 𝓛 (lies_at the_row full_share at c) }
-    ensures* { ∃ₛ (λ (d : Cache). sem 𝓛 (lies_at the_row full_share at d) ∗ ⌜ IsTabled c level out.old result out.new d ⌝) }
+    ensures* { ∃ₛ (λ (d : Cache). sem 𝓛 (lies_at the_row full_share at d) ∗ ⌜ IsLevelListed c level out.old result out.new d ⌝) }
 {
     cache::table(&mut *(at as *mut Cache), level, out)
 }
@@ -341,7 +341,7 @@ pub unsafe extern "C" fn vtex_cache_table(at: *mut VtexCache, level: u32, out: &
 pub unsafe extern "C" fn vtex_cache_info(at: *mut VtexCache, told: &mut Info) -> u32
     ghost c: { Cache }
     requires* { sem 𝓛 (lies_at the_row full_share at c) }
-    ensures* { ∃ₛ (λ (d : Cache). sem 𝓛 (lies_at the_row full_share at d) ∗ ⌜ IsTold c told.old result told.new d ⌝) }
+    ensures* { ∃ₛ (λ (d : Cache). sem 𝓛 (lies_at the_row full_share at d) ∗ ⌜ IsInfoAnswer c told.old result told.new d ⌝) }
 {
     cache::info(&mut *(at as *mut Cache), told)
 }

@@ -2,7 +2,7 @@
 
 ghost use Rattle.std.specs.Prelude.{◌≡◌, None};
 ghost use Rattle.std.specs.Bool.{MatchBool};
-ghost use Rattle.vtex_c.specs.Readers.{IsNumbered, IsHeld, IsFoundUnder, IsRead, IsRunRead, IsRunBlended, IsReleased, IsShut, AreFit, IsFit};
+ghost use Rattle.vtex_c.specs.Readers.{IsNumbered, IsNewestHeld, IsFoundUnder, IsRead, IsRunRead, IsRunBlended, IsReleased, IsShut, AreFit, IsFit};
 
 use crate::{BAD_NUMBER, CLOSED, DONE, NOT_HELD};
 use std::alloc::Global;
@@ -38,7 +38,7 @@ pub fn number(place: &mut ReaderPlace, told: &mut u32) -> u32
 
 /// Takes hold of the newest version, and tells it.
 pub fn hold(place: &mut ReaderPlace, version: &mut u64) -> u32
-    ensures { IsHeld place.old version.old result version.new place.new }
+    ensures { IsNewestHeld place.old version.old result version.new place.new }
 {
     match &mut place.inner {
         None => CLOSED,

@@ -4,7 +4,7 @@ ghost use Rattle.std.specs.Prelude.{◌≡◌, MatchOption};
 ghost use Rattle.std.specs.Bool.{MatchBool};
 ghost use Rattle.vt_pages.specs.Pages.{IsPage};
 ghost use Rattle.vt_pages.specs.Laws.{IsInside};
-ghost use Rattle.vtex_c.specs.Statuses.{IsRefused};
+ghost use Rattle.vtex_c.specs.Statuses.{IsShapeRefused};
 ghost use Rattle.vtex_c.specs.Shapes.{shape_in, name_in, IsGeometryIn};
 
 use vt_pages::{Geometry, PageName};
@@ -30,7 +30,7 @@ pub struct VtexName {
 
 /// The geometry of a shape, unless it is refused.
 pub fn geometry_of(shape: &VtexShape) -> Option<Geometry>
-    ensures { MatchOption result (IsRefused (shape_in shape.now)) (IsGeometryIn shape.now) }
+    ensures { MatchOption result (IsShapeRefused (shape_in shape.now)) (IsGeometryIn shape.now) }
 {
     match Geometry::new(shape.width, shape.height, shape.tile) {
         Ok(geometry) => Some(geometry),

@@ -9,9 +9,9 @@ ghost use Rattle.vtex_c.specs.contracts.table.TablePlace.{the_row as table_row};
 ghost use Rattle.vtex_c.specs.contracts.reader.ReaderPlace.{the_row as reader_row};
 ghost use Rattle.vtex_c.specs.declared.table.TablePlace.{TablePlace};
 ghost use Rattle.vtex_c.specs.declared.reader.ReaderPlace.{ReaderPlace};
-ghost use Rattle.vtex_c.specs.Tables.{IsTableOpened, IsMapped, IsUnmapped, IsAdmitted, IsTakenBack, IsTableClosed, AreOfOneTable};
+ghost use Rattle.vtex_c.specs.Tables.{IsTableOpened, IsMapped, IsUnmapped, IsReaderOpened, IsTakenBack, IsTableClosed, AreOfOneTable};
 ghost use Rattle.vtex_c.specs.Settlings.{IsSettled};
-ghost use Rattle.vtex_c.specs.Readers.{IsNumbered, IsHeld, IsFoundUnder, IsRead, IsRunRead, IsRunBlended, IsReleased, IsShut};
+ghost use Rattle.vtex_c.specs.Readers.{IsNumbered, IsNewestHeld, IsFoundUnder, IsRead, IsRunRead, IsRunBlended, IsReleased, IsShut};
 
 use crate::reader::ReaderPlace;
 use crate::settle::VtexStep;
@@ -139,7 +139,7 @@ pub unsafe extern "C" fn vtex_table_admit(at: *mut VtexTable, reader: *mut VtexR
     requires* table { sem 𝓛 (lies_at table_row full_share at c.0) }
     requires* reader { sem 𝓛 (lies_at reader_row full_share reader c.1) }
     ensures* { ∃ₛ (λ (d : TablePlace × ReaderPlace). sem 𝓛 (lies_at table_row full_share at d.0)
-        ∗ sem 𝓛 (lies_at reader_row full_share reader d.1) ∗ ⌜ IsAdmitted c.0 c.1 result d.0 d.1 ⌝) }
+        ∗ sem 𝓛 (lies_at reader_row full_share reader d.1) ∗ ⌜ IsReaderOpened c.0 c.1 result d.0 d.1 ⌝) }
 {
     table::admit(
         &mut *(at as *mut TablePlace),
@@ -189,7 +189,7 @@ pub unsafe extern "C" fn vtex_reader_number(at: *mut VtexReader, number: &mut u3
 pub unsafe extern "C" fn vtex_reader_hold(at: *mut VtexReader, version: &mut u64) -> u32
     ghost c: { ReaderPlace }
     requires* { sem 𝓛 (lies_at reader_row full_share at c) }
-    ensures* { ∃ₛ (λ (d : ReaderPlace). sem 𝓛 (lies_at reader_row full_share at d) ∗ ⌜ IsHeld c version.old result version.new d ⌝) }
+    ensures* { ∃ₛ (λ (d : ReaderPlace). sem 𝓛 (lies_at reader_row full_share at d) ∗ ⌜ IsNewestHeld c version.old result version.new d ⌝) }
 {
     reader::hold(&mut *(at as *mut ReaderPlace), version)
 }

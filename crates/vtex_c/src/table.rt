@@ -4,7 +4,7 @@ ghost use Rattle.std.specs.Prelude.{◌≡◌, Some, None, MatchOption};
 ghost use Rattle.std.specs.Bool.{MatchBool};
 ghost use Rattle.vt_definitions.specs.Depths.{IsDepth};
 ghost use Rattle.vt_shared.specs.Given.{HasTileLength};
-ghost use Rattle.vtex_c.specs.Tables.{AreNumbers, IsTableOpened, IsPut, IsLeft, IsMapped, IsUnmapped, IsAdmitted, IsTakenBack, IsTableClosed, AreOfOneTable, MayMap, MayUnmap};
+ghost use Rattle.vtex_c.specs.Tables.{AreNumbers, IsTableOpened, IsPut, IsPageLeft, IsMapped, IsUnmapped, IsReaderOpened, IsTakenBack, IsTableClosed, AreOfOneTable, MayMap, MayUnmap};
 ghost use Rattle.vt_journal.specs.Changes.{newest};
 
 use crate::reader::ReaderPlace;
@@ -109,7 +109,7 @@ pub fn open(place: &mut TablePlace, shape: &VtexShape, depth: u32, frames: u32, 
 }
 
 // Whom a step waits for, as C is told.
-fn told(who: Waiting) -> VtexWaiting
+fn waiting_for(who: Waiting) -> VtexWaiting
     ensures reader { result.reader ≡ who.sampler }
     ensures version { result.version ≡ who.holds }
 {
@@ -129,7 +129,7 @@ pub fn put(owner: &mut Owner, page: u32, frame: u32, tile: &[u8], waiting: &mut 
     match owner.map(page, frame, tile) {
         Ok(()) => DONE,
         Err(who) => {
-            *waiting = told(who);
+            *waiting = waiting_for(who);
             WAITING
         }
     }
@@ -139,12 +139,12 @@ pub fn put(owner: &mut Owner, page: u32, frame: u32, tile: &[u8], waiting: &mut 
 pub fn leave(owner: &mut Owner, page: u32, frame: u32, waiting: &mut VtexWaiting) -> u32
     requires may { MayUnmap owner.old page }
     requires at { newest owner.old.streamer.writer.journal page ≡ Some frame }
-    ensures { IsLeft owner.old page frame waiting.old result waiting.new owner.new }
+    ensures { IsPageLeft owner.old page frame waiting.old result waiting.new owner.new }
 {
     match owner.unmap(page, frame) {
         Ok(()) => DONE,
         Err(who) => {
-            *waiting = told(who);
+            *waiting = waiting_for(who);
             WAITING
         }
     }
@@ -181,7 +181,7 @@ pub fn unmap(place: &mut TablePlace, page: u32, waiting: &mut VtexWaiting) -> u3
 
 /// Opens a reader of a table.
 pub fn admit(place: &mut TablePlace, reader: &mut ReaderPlace) -> u32
-    ensures { IsAdmitted place.old reader.old result place.new reader.new }
+    ensures { IsReaderOpened place.old reader.old result place.new reader.new }
 {
     if reader.inner.is_some() {
         return BAD_NUMBER;

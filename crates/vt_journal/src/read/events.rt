@@ -7,7 +7,7 @@ ghost use Rattle.vt_pages.specs.Pages.{pages_of};
 ghost use Rattle.vt_journal.specs.declared.lines.Line.{Line};
 ghost use Rattle.vt_journal.specs.declared.changes.Event.{Event};
 ghost use Rattle.vt_journal.specs.Changes.{newest};
-ghost use Rattle.vt_journal.specs.JournalReading.{IsReadable, IsCursor, IsUnpinned, IsEventChange, IsInPass, IsEventAdded, AreEventsRead, IsRefusal, IsNoEventAt, reading_of};
+ghost use Rattle.vt_journal.specs.JournalReading.{IsReadable, IsCursor, IsUnpinned, IsEventChange, IsInPass, IsEventAdded, AreEventsRead, IsJournalRefusal, IsNoEventAt, reading_of};
 
 use crate::changes::{Change, Event};
 use crate::kept::Kept;
@@ -113,7 +113,7 @@ fn read_event(
         × AreEventsRead source.now.geometry.now source.now.height source.now.text.now kept.old.changes kept.new.changes
         pass.old pass.new
         cursor.at cursor.number next.at next.number))
-        (IsRefusal source.now.geometry.now source.now.height source.now.text.now (reading_of kept.old.changes pass.old)
+        (IsJournalRefusal source.now.geometry.now source.now.height source.now.text.now (reading_of kept.old.changes pass.old)
         cursor.at cursor.number) }
 {
     let Some(read) = read_line(source, cursor) else {
@@ -153,7 +153,7 @@ pub fn read_events(
         × (kept.new.pages ≡ kept.old.pages)
         × AreEventsRead source.now.geometry.now source.now.height source.now.text.now kept.old.changes kept.new.changes
         pass.old pass.new cursor.at cursor.number next.at next.number)
-        (IsRefusal source.now.geometry.now source.now.height source.now.text.now (reading_of kept.old.changes pass.old)
+        (IsJournalRefusal source.now.geometry.now source.now.height source.now.text.now (reading_of kept.old.changes pass.old)
         cursor.at cursor.number) }
 {
     let mut place = cursor;

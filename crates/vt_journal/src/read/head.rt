@@ -4,7 +4,7 @@ ghost use Rattle.std.specs.Prelude.{◌≡◌, ◌≢◌, ◌+◌, ◌<◌, [], 
 ghost use Rattle.vt_pages.specs.Pages.{pages_of};
 ghost use Rattle.vt_journal.specs.declared.lines.Line.{Line};
 ghost use Rattle.vt_journal.specs.declared.changes.Change.{Change};
-ghost use Rattle.vt_journal.specs.JournalReading.{IsRefusal, IsSource, IsHeadBegun};
+ghost use Rattle.vt_journal.specs.JournalReading.{IsJournalRefusal, IsSource, IsHeadBegun};
 ghost use Rattle.vt_journal.specs.JournalFlaws.{nothing_read};
 
 use crate::changes::Change;
@@ -55,7 +55,7 @@ fn read_first(source: &Source, kept: &mut Kept) -> Result<HeadRead, JournalError
         (λ h. (kept.new.pages ≡ kept.old.pages)
         × IsHeadBegun source.now.geometry.now source.now.height source.now.text.now kept.new.changes h.pinned 1
         h.next.at h.next.number)
-        (IsRefusal source.now.geometry.now source.now.height source.now.text.now nothing_read 0 1) }
+        (IsJournalRefusal source.now.geometry.now source.now.height source.now.text.now nothing_read 0 1) }
 {
     let Some(read) = read_line(source, Cursor { at: 0, number: 1 }) else {
         return Err(bad(1));
@@ -96,7 +96,7 @@ fn read_further(
         (λ next. (kept.new.pages ≡ kept.old.pages)
         × IsHeadBegun source.now.geometry.now source.now.height source.now.text.now kept.new.changes pinned (place + 1)
         next.at next.number)
-        (IsRefusal source.now.geometry.now source.now.height source.now.text.now nothing_read 0 1) }
+        (IsJournalRefusal source.now.geometry.now source.now.height source.now.text.now nothing_read 0 1) }
 {
     let Some(read) = read_line(source, cursor) else {
         return Err(bad(cursor.number));
@@ -134,7 +134,7 @@ pub fn read_head(source: &Source, kept: &mut Kept) -> Result<HeadRead, JournalEr
         (λ h. (kept.new.pages ≡ kept.old.pages)
         × IsHeadBegun source.now.geometry.now source.now.height source.now.text.now kept.new.changes h.pinned h.pinned
         h.next.at h.next.number)
-        (IsRefusal source.now.geometry.now source.now.height source.now.text.now nothing_read 0 1) }
+        (IsJournalRefusal source.now.geometry.now source.now.height source.now.text.now nothing_read 0 1) }
 {
     let first = read_first(source, kept)?;
     let mut place = first.next;

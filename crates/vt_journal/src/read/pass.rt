@@ -3,7 +3,7 @@
 ghost use Rattle.std.specs.Prelude.{◌≡◌, ◌+◌, ◌<◌, ◌≤◌, [], ◌∷◌, length, MatchResult, OnOk, IfOk};
 ghost use Rattle.std.specs.Bool.{MatchBool};
 ghost use Rattle.vt_journal.specs.declared.lines.Line.{Line};
-ghost use Rattle.vt_journal.specs.JournalReading.{IsCursor, IsRefusal, IsNoEventAt, IsBetween, IsNextPass, Advances, IsAwaited, IsInPass, IsPassFilled, IsPassRead, reading_of};
+ghost use Rattle.vt_journal.specs.JournalReading.{IsCursor, IsJournalRefusal, IsNoEventAt, IsBetweenPasses, IsNextPassLine, Advances, IsAwaited, IsInPass, IsPassFilled, IsPassRead, reading_of};
 ghost use Rattle.vt_journal.specs.JournalFlaws.{Reading, IsNextPicture};
 
 use crate::changes::{Events, RowLines};
@@ -28,8 +28,8 @@ fn is_next_picture(passes: u32, before: u32, picture: u32) -> bool
 
 // Whether the numbers of a line that begins a pass are those of the next pass.
 fn is_next_pass(version: u64, passes: u32, before: u32, pass: u32, picture: u32, start: u64) -> bool
-    ensures { MatchBool result (IsNextPass version passes before pass picture start)
-        (IsNextPass version passes before pass picture start → ⊥) }
+    ensures { MatchBool result (IsNextPassLine version passes before pass picture start)
+        (IsNextPassLine version passes before pass picture start → ⊥) }
 {
     if u64::from(pass) != u64::from(passes) + 1 {
         return false;
@@ -62,11 +62,11 @@ fn read_begin(
     requires no_event { source.now.height ≡ 0 → 1 ≤ passes → IsNoEventAt source.now.geometry.now source.now.text.now cursor.at }
     ensures begun { IfOk result (λ b. IsCursor source.now.text.now b.next.at b.next.number × (b.pass ≡ passes + 1)
         × IsNextPicture passes before b.picture) }
-    ensures read { (r : Reading) → IsBetween source.now.geometry.now source.now.height kept.now.changes passes before r
+    ensures read { (r : Reading) → IsBetweenPasses source.now.geometry.now source.now.height kept.now.changes passes before r
         → MatchResult result
         (λ b. Advances source.now.geometry.now source.now.height source.now.text.now r cursor.at cursor.number
         (Line.Begins b.pass b.picture b.start ∷ []) b.next.at b.next.number)
-        (IsRefusal source.now.geometry.now source.now.height source.now.text.now r cursor.at cursor.number) }
+        (IsJournalRefusal source.now.geometry.now source.now.height source.now.text.now r cursor.at cursor.number) }
 {
     let Some(read) = read_line(source, cursor) else {
         return Err(bad(cursor.number));
@@ -105,7 +105,7 @@ fn fill_pass(
         (λ next. (kept.new.pages ≡ kept.old.pages)
         × IsPassFilled source.now.geometry.now source.now.height source.now.text.now kept.old.changes kept.new.changes
         pass.old pass.new cursor.at cursor.number next.at next.number)
-        (IsRefusal source.now.geometry.now source.now.height source.now.text.now (reading_of kept.old.changes pass.old)
+        (IsJournalRefusal source.now.geometry.now source.now.height source.now.text.now (reading_of kept.old.changes pass.old)
         cursor.at cursor.number) }
 {
     let next = read_events(source, kept, pinned, pass, cursor)?;
@@ -136,12 +136,12 @@ pub fn read_pass(
     requires no_event { source.now.height ≡ 0 → 1 ≤ passes → IsNoEventAt source.now.geometry.now source.now.text.now cursor.at }
     requires awaited { IsAwaited source.now.geometry.now source.now.height kept.old.changes kept.old.pages pinned passes before }
     ensures pages { OnOk result (kept.new.pages ≡ kept.old.pages) }
-    ensures read { (r : Reading) → IsBetween source.now.geometry.now source.now.height kept.old.changes passes before r
+    ensures read { (r : Reading) → IsBetweenPasses source.now.geometry.now source.now.height kept.old.changes passes before r
         → MatchResult result
         (λ p. IsPassRead source.now.geometry.now source.now.height source.now.text.now r
         kept.old.changes kept.new.changes passes p.pass
         cursor.at cursor.number p.next.at p.next.number)
-        (IsRefusal source.now.geometry.now source.now.height source.now.text.now r cursor.at cursor.number) }
+        (IsJournalRefusal source.now.geometry.now source.now.height source.now.text.now r cursor.at cursor.number) }
 {
     let begin = read_begin(source, kept, passes, before, cursor)?;
     let mut pass = PassText {

@@ -3,7 +3,7 @@
 ghost use Rattle.std.specs.Prelude.{◌≡◌, ◌+◌, ◌<◌, ◌≤◌, [], ◌∷◌, ◌++◌, length, slice_index, MatchResult};
 ghost use Rattle.std.specs.Bool.{MatchBool};
 ghost use Rattle.vt_text.specs.Limits.{most_samplers};
-ghost use Rattle.vt_journal.specs.JournalReading.{IsCursor, IsRefusal, IsSmall, IsNoEventAt, IsRowInTurn, AreSeen, AreRowsBegun, IsRowRead, AreRowsRead, with_rows};
+ghost use Rattle.vt_journal.specs.JournalReading.{IsCursor, IsJournalRefusal, IsSmall, IsNoEventAt, IsRowInTurn, AreSeen, AreRowsBegun, IsRowRead, AreRowsRead, with_rows};
 
 use crate::changes::{RowLine, RowLines};
 use crate::kept::Kept;
@@ -61,7 +61,7 @@ fn read_row(
         (λ next. IsRowRead source.now.geometry.now source.now.height source.now.text.now kept.now.changes pass.now
         rows.old rows.new seen.new
         cursor.at cursor.number next.at next.number)
-        (IsRefusal source.now.geometry.now source.now.height source.now.text.now (with_rows kept.now.changes pass.now
+        (IsJournalRefusal source.now.geometry.now source.now.height source.now.text.now (with_rows kept.now.changes pass.now
         rows.old.elements)
         cursor.at cursor.number) }
 {
@@ -102,7 +102,7 @@ fn read_into(
     ensures { MatchResult result
         (λ next. AreRowsRead source.now.geometry.now source.now.height source.now.text.now kept.now.changes pass.now
         cursor.at cursor.number rows.new.elements next.at next.number)
-        (IsRefusal source.now.geometry.now source.now.height source.now.text.now (with_rows kept.now.changes pass.now [])
+        (IsJournalRefusal source.now.geometry.now source.now.height source.now.text.now (with_rows kept.now.changes pass.now [])
         cursor.at cursor.number) }
 {
     let mut seen = unseen(pass.start);
@@ -135,7 +135,7 @@ pub fn read_rows(
     ensures { MatchResult result
         (λ r. AreRowsRead source.now.geometry.now source.now.height source.now.text.now kept.now.changes pass.now
         cursor.at cursor.number r.rows.elements r.next.at r.next.number)
-        (IsRefusal source.now.geometry.now source.now.height source.now.text.now (with_rows kept.now.changes pass.now [])
+        (IsJournalRefusal source.now.geometry.now source.now.height source.now.text.now (with_rows kept.now.changes pass.now [])
         cursor.at cursor.number) }
 {
     let mut rows = RowLines::new(alloc);

@@ -8,7 +8,7 @@ use Rattle.vt_store_commands.specs.declared.commands.generate.GenWords.{GenWords
 use Rattle.std.specs.List.{flat_map, range_with_len}
 use Rattle.vt_ppm.specs.Picture.{picture_bytes}
 use Rattle.vt_outside.specs.Effects.{FolderEffect, CallEffect, SinkState}
-use Rattle.vt_command_inputs.specs.Inputs.{Content}
+use Rattle.vt_command_inputs.specs.Inputs.{InputContent}
 use Rattle.vt_outside.specs.Expectations.{ExpectedFile, Expected}
 use Rattle.vt_command_inputs.specs.Tasks.{Task}
 
@@ -61,7 +61,7 @@ abbrev pub expected_file : GenText → ExpectedFile
 expected_file words = record { name = words.name; bytes = made_file words.number words.width words.height }
 
 -- `gen` puts no text
-abbrev pub expected_gen : GenText → List Content → Expected
+abbrev pub expected_gen : GenText → List InputContent → Expected
 expected_gen words contents = record { files = expected_file words ∷ []; text = [] }
 
 -- `gen` reads nothing

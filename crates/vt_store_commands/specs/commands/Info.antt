@@ -4,7 +4,7 @@ use Rattle.clap.specs.Words.{Row, Rule, Text, first_of}
 use Rattle.vt_command_words.specs.Arguments.{word, given}
 use Rattle.vt_store_commands.specs.declared.commands.info.InfoWords.{InfoWords}
 use Rattle.vt_command_inputs.specs.Lines.{store_line}
-use Rattle.vt_command_inputs.specs.Inputs.{Content, StoreInput, StoreContent}
+use Rattle.vt_command_inputs.specs.Inputs.{InputContent, StoreInput, StoreContent}
 use Rattle.vt_outside.specs.Expectations.{Expected}
 use Rattle.vt_command_inputs.specs.Tasks.{Task}
 
@@ -25,7 +25,7 @@ abbrev pub shown_info : InfoWords → InfoText
 shown_info words = record { store = words.store.now }
 
 -- the store's line alone
-abbrev pub expected_info : List Content → Expected
+abbrev pub expected_info : List InputContent → Expected
 expected_info (StoreContent shape depth ∷ []) = record { files = []; text = store_line shape depth }
 expected_info other = record { files = []; text = [] }
 

@@ -11,7 +11,7 @@ use Rattle.vt_ppm.specs.Image.{ImageView}
 use Rattle.vt_camera.specs.Paths.{PathView}
 use Rattle.vt_command_inputs.specs.Lines.{end_line}
 use Rattle.vt_store_commands.specs.Pictures.{plain_file}
-use Rattle.vt_command_inputs.specs.Inputs.{Content, PathInput, TextureInput, PathContent, TextureContent}
+use Rattle.vt_command_inputs.specs.Inputs.{InputContent, PathInput, TextureInput, PathContent, TextureContent}
 use Rattle.vt_outside.specs.Expectations.{Expected}
 use Rattle.vt_plain_bilinear.specs.Pictures.{expected_pictures}
 use Rattle.vt_command_inputs.specs.Tasks.{Task}
@@ -60,7 +60,7 @@ expected_path words texture path = record {
   text = end_line (length path.cameras);
 }
 
-abbrev pub expected_plain : PlainText → List Content → Expected
+abbrev pub expected_plain : PlainText → List InputContent → Expected
 expected_plain words (PathContent path ∷ TextureContent texture ∷ []) = expected_path words texture path
 expected_plain words other = record { files = []; text = [] }
 

@@ -14,7 +14,7 @@ use Rattle.vt_pages.specs.declared.PagesError.{PagesError}
 use Rattle.vt_pages.specs.declared.PagesError.TheVariants as pages_error
 use Rattle.vt_store.specs.ChainStores.{texture_store}
 use Rattle.vt_command_inputs.specs.Lines.{store_line}
-use Rattle.vt_command_inputs.specs.Inputs.{Content, TiledTexture, TextureContent, texture_shape}
+use Rattle.vt_command_inputs.specs.Inputs.{InputContent, TiledTexture, TextureContent, texture_shape}
 use Rattle.vt_outside.specs.Expectations.{Expected}
 use Rattle.vt_command_inputs.specs.Tasks.{Task}
 use Rattle.vt_command_inputs.specs.declared.flaws.Flaw.{Flaw}
@@ -59,7 +59,7 @@ expected_store name texture tile = record {
   text = store_line (texture_shape texture tile) texture.depth;
 }
 
-abbrev pub expected_tile : TileText → List Content → Expected
+abbrev pub expected_tile : TileText → List InputContent → Expected
 expected_tile words (TextureContent texture ∷ []) = expected_store words.store texture words.tile
 expected_tile words other = record { files = []; text = [] }
 

@@ -8,7 +8,7 @@ use Rattle.vt_pages.specs.Shape.{Shape}
 use Rattle.vt_tiles.specs.Format.{store_bytes, stored}
 use Rattle.vt_store.specs.Widening.{widened}
 use Rattle.vt_command_inputs.specs.Lines.{store_line}
-use Rattle.vt_command_inputs.specs.Inputs.{Content, NarrowStore, NarrowContent}
+use Rattle.vt_command_inputs.specs.Inputs.{InputContent, NarrowStore, NarrowContent}
 use Rattle.vt_outside.specs.Expectations.{Expected}
 use Rattle.vt_command_inputs.specs.Tasks.{Task}
 
@@ -43,7 +43,7 @@ expected_wide name shape bytes = record {
   text = store_line shape 2;
 }
 
-abbrev pub expected_upgrade : UpgradeText → List Content → Expected
+abbrev pub expected_upgrade : UpgradeText → List InputContent → Expected
 expected_upgrade words (NarrowContent shape bytes ∷ []) = expected_wide words.new_store shape bytes
 expected_upgrade words other = record { files = []; text = [] }
 

@@ -9,7 +9,7 @@ ghost use Rattle.vt_command_words.specs.Numbers.{most_number};
 ghost use Rattle.vt_definitions.specs.Limits.{most_read_side};
 ghost use Rattle.vt_outside.specs.Effects.{SinkState, folder_effect};
 ghost use Rattle.vt_outside.specs.Expectations.{Writes};
-ghost use Rattle.vt_command_inputs.specs.CommandSpecs.{Ends};
+ghost use Rattle.vt_command_inputs.specs.CommandSpecs.{EndsAs};
 
 use crate::commands::StoreCommand;
 use clap::ArgMatches;
@@ -76,7 +76,7 @@ pub fn generate<'a, D: Folder>(
     folder: &mut D,
 ) -> Result<(), Refusal<'a>>
     requires { IsLawfulGen words.now }
-    ensures { (out : SinkState) → Ends (gen_task (shown_gen words.now)) (quiet (folder_effect D.Folder folder.old folder.new) out) result }
+    ensures { (out : SinkState) → EndsAs (gen_task (shown_gen words.now)) (quiet (folder_effect D.Folder folder.old folder.new) out) result }
 {
     write_texture(alloc, words, folder)?;
     Ok(())

@@ -6,7 +6,7 @@ ghost use Rattle.vt_command_words.specs.Arguments.{rule_for, are_simple};
 ghost use Rattle.vt_store_commands.specs.commands.{InfoCommand, shown_store, IsLawfulStore};
 ghost use Rattle.vt_store_commands.specs.commands.Info.{info_rules, info_values, shown_info, info_task};
 ghost use Rattle.vt_outside.specs.Effects.{call_effect};
-ghost use Rattle.vt_command_inputs.specs.CommandSpecs.{Ends};
+ghost use Rattle.vt_command_inputs.specs.CommandSpecs.{EndsAs};
 
 use crate::commands::StoreCommand;
 use clap::ArgMatches;
@@ -45,7 +45,7 @@ pub fn info<'a, D: Folder, O: Sink>(
     folder: &mut D,
     out: &mut O,
 ) -> Result<(), Refusal<'a>>
-    ensures { Ends (info_task (shown_info words.now)) (call_effect D.Folder O.Sink folder.old folder.new out.old out.new) result }
+    ensures { EndsAs (info_task (shown_info words.now)) (call_effect D.Folder O.Sink folder.old folder.new out.old out.new) result }
 {
     let header = read_store_header(folder, words.store)?;
     put_store_line(out, &header.geometry, header.depth)?;

@@ -7,10 +7,10 @@ ghost use Rattle.vt_store_commands.specs.commands.{PlainCommand, shown_store, Is
 ghost use Rattle.vt_store_commands.specs.commands.Plain.{plain_rules, plain_clash, plain_values, shown_plain, plain_task};
 ghost use Rattle.vt_definitions.specs.Tiles.{IsTileSide};
 ghost use Rattle.vt_outside.specs.Effects.{call_effect, folder_effect};
-ghost use Rattle.vt_store_commands.specs.PlainFiles.{AreWanted, file_with};
+ghost use Rattle.vt_store_commands.specs.PlainFiles.{AreLevelsWanted, file_with};
 ghost use Rattle.vt_store_commands.specs.SeenTextures.{IsEnough, seen_path};
 ghost use Rattle.vt_outside.specs.Expectations.{Leaves, Writes};
-ghost use Rattle.vt_command_inputs.specs.CommandSpecs.{Ends};
+ghost use Rattle.vt_command_inputs.specs.CommandSpecs.{EndsAs};
 ghost use Rattle.vt_plain_bilinear.specs.Pictures.{expected_pictures};
 
 use crate::commands::StoreCommand;
@@ -99,7 +99,7 @@ pub fn plain<'a, Rt: Threads + Sync, D: Folder, O: Sink>(
     out: &mut O,
 ) -> Result<(), Refusal<'a>>
     requires { IsTileSide words.now.tile }
-    ensures { Ends (plain_task (shown_plain words.now)) (call_effect D.Folder O.Sink folder.old folder.new out.old out.new) result }
+    ensures { EndsAs (plain_task (shown_plain words.now)) (call_effect D.Folder O.Sink folder.old folder.new out.old out.new) result }
 {
     let path = read_path(alloc, folder, words.path)?;
     let seen = read_seen(
@@ -159,7 +159,7 @@ fn write_all<Rt: Threads + Sync, D: Folder>(
     words: &PlainWords<'_>,
     folder: &mut D,
 ) -> Result<(), OutsideError>
-    requires { AreWanted levels.now path.now }
+    requires { AreLevelsWanted levels.now path.now }
     ensures { Writes (expected_pictures words.now.prefix.now
         (file_with words.now.filter levels.now path.now) (length path.now.cameras))
         (folder_effect D.Folder folder.old folder.new) result }

@@ -14,7 +14,7 @@ ghost use Rattle.vt_outside.specs.Effects.{call_effect, folder_effect};
 ghost use Rattle.vt_command_inputs.specs.Inputs.{TiledTexture, AreStrips};
 ghost use Rattle.vt_command_inputs.specs.OpenWrites.{WritesMade};
 ghost use Rattle.vt_command_inputs.specs.Reads.{file_state, OpensTexture, Refused};
-ghost use Rattle.vt_command_inputs.specs.CommandSpecs.{Ends};
+ghost use Rattle.vt_command_inputs.specs.CommandSpecs.{EndsAs};
 
 use crate::commands::StoreCommand;
 use clap::ArgMatches;
@@ -81,7 +81,7 @@ pub fn tile<'a, Rt: Threads + Sync, D: Folder, O: Sink>(
     out: &mut O,
 ) -> Result<(), Refusal<'a>>
     requires { IsTileSide words.now.tile }
-    ensures { Ends (tile_task (shown_tile words.now)) (call_effect D.Folder O.Sink folder.old folder.new out.old out.new) result }
+    ensures { EndsAs (tile_task (shown_tile words.now)) (call_effect D.Folder O.Sink folder.old folder.new out.old out.new) result }
 {
     let (reader, geometry) = open_pages(alloc, words.texture, words.tile, folder)?;
     let depth = reader.depth();

@@ -9,7 +9,7 @@ ghost use Rattle.vt_outside.specs.Effects.{call_effect, folder_effect};
 ghost use Rattle.vt_command_inputs.specs.Inputs.{NarrowStore, ArePieces};
 ghost use Rattle.vt_command_inputs.specs.OpenWrites.{WritesMade};
 ghost use Rattle.vt_command_inputs.specs.Reads.{file_state, Refused, OpensStore};
-ghost use Rattle.vt_command_inputs.specs.CommandSpecs.{Ends};
+ghost use Rattle.vt_command_inputs.specs.CommandSpecs.{EndsAs};
 
 use crate::commands::StoreCommand;
 use clap::ArgMatches;
@@ -60,7 +60,7 @@ pub fn upgrade<'a, Rt: Threads + Sync, D: Folder, O: Sink>(
     folder: &mut D,
     out: &mut O,
 ) -> Result<(), Refusal<'a>>
-    ensures { Ends (upgrade_task (shown_upgrade words.now)) (call_effect D.Folder O.Sink folder.old folder.new out.old out.new) result }
+    ensures { EndsAs (upgrade_task (shown_upgrade words.now)) (call_effect D.Folder O.Sink folder.old folder.new out.old out.new) result }
 {
     let store = open_narrow(folder, words.store)?;
     let geometry = store.geometry();

@@ -128,7 +128,7 @@ fn is_told(read: &PassText, told: &Told) -> bool {
 }
 
 // Whether the passes that were read tell what they are to tell.
-fn are_told(read: &JournalText, passes: &[Told]) -> bool {
+fn are_known_to(read: &JournalText, passes: &[Told]) -> bool {
     if read.passes() as usize != passes.len() {
         return false;
     }
@@ -163,7 +163,9 @@ fn is_read(
 ) -> bool {
     match parse_journal(alloc, geometry, 1, text.as_bytes()) {
         Ok(read) => {
-            read.pinned() == 1 && are_told(&read, passes) && has_changes(read.journal(), changes)
+            read.pinned() == 1
+                && are_known_to(&read, passes)
+                && has_changes(read.journal(), changes)
         }
         Err(_) => false,
     }

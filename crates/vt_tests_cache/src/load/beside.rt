@@ -2,7 +2,7 @@
 
 ghost use Rattle.std.specs.Prelude.{IfSome};
 ghost use Rattle.std.specs.Thread.{IsSync, IsSend};
-ghost use Rattle.vt_queue.specs.Queues.{IsOf};
+ghost use Rattle.vt_queue.specs.Queues.{IsPassOfQueue};
 
 use super::*;
 use std::thread;
@@ -19,10 +19,10 @@ struct Worker<F: File> {
 impl<F: File> Worker<F> {
     // Lets the loader run.
     fn work<Rt: Threads + Wait>(&mut self, rt: &Rt, requests: &RequestQueue, results: &ResultQueue)
-        requires asks { IsOf requests.now self.old.asks }
-        requires answers { IsOf results.now self.old.answers }
-        ensures asks { IsOf requests.now self.new.asks }
-        ensures answers { IsOf results.now self.new.answers }
+        requires asks { IsPassOfQueue requests.now self.old.asks }
+        requires answers { IsPassOfQueue results.now self.old.answers }
+        ensures asks { IsPassOfQueue requests.now self.new.asks }
+        ensures answers { IsPassOfQueue results.now self.new.answers }
     {
         if let Ok(()) = self.loader.reserve(u64::from(requests.capacity())) {
             self.loader.run(
@@ -45,20 +45,20 @@ fn work_beside<Rt: Threads + Wait + Sync, F: File + Send>(
     requests: &RequestQueue,
     results: &ResultQueue,
 )
-    requires first { IsOf requests.now first.old.asks × IsOf results.now first.old.answers }
-    requires second { IsOf requests.now second.old.asks × IsOf results.now second.old.answers }
-    ensures first { IsOf requests.now first.new.asks × IsOf results.now first.new.answers }
-    ensures second { IsOf requests.now second.new.asks × IsOf results.now second.new.answers }
+    requires first { IsPassOfQueue requests.now first.old.asks × IsPassOfQueue results.now first.old.answers }
+    requires second { IsPassOfQueue requests.now second.old.asks × IsPassOfQueue results.now second.old.answers }
+    ensures first { IsPassOfQueue requests.now first.new.asks × IsPassOfQueue results.now first.new.answers }
+    ensures second { IsPassOfQueue requests.now second.new.asks × IsPassOfQueue results.now second.new.answers }
 {
     join_mut(
         rt,
         &mut || -> ()
-            requires { IsSync Rt.row × IsSend F.row × IsOf requests.now first.now.asks × IsOf results.now first.now.answers }
-            ensures { IsOf requests.entry.now first.exit.now.asks × IsOf results.entry.now first.exit.now.answers }
+            requires { IsSync Rt.row × IsSend F.row × IsPassOfQueue requests.now first.now.asks × IsPassOfQueue results.now first.now.answers }
+            ensures { IsPassOfQueue requests.entry.now first.exit.now.asks × IsPassOfQueue results.entry.now first.exit.now.answers }
         { first.work(rt, requests, results) },
         &mut || -> ()
-            requires { IsSync Rt.row × IsSend F.row × IsOf requests.now second.now.asks × IsOf results.now second.now.answers }
-            ensures { IsOf requests.entry.now second.exit.now.asks × IsOf results.entry.now second.exit.now.answers }
+            requires { IsSync Rt.row × IsSend F.row × IsPassOfQueue requests.now second.now.asks × IsPassOfQueue results.now second.now.answers }
+            ensures { IsPassOfQueue requests.entry.now second.exit.now.asks × IsPassOfQueue results.entry.now second.exit.now.answers }
         { second.work(rt, requests, results) },
     );
 }
@@ -70,8 +70,8 @@ fn sum_taken<Rt: Threads + Wait>(
     answers: &mut QueuePass<Loaded>,
     count: u32,
 ) -> u64
-    requires { IsOf results.now answers.old }
-    ensures { IsOf results.now answers.new }
+    requires { IsPassOfQueue results.now answers.old }
+    ensures { IsPassOfQueue results.now answers.new }
 {
     let mut sum = 0u64;
     let mut taken = 0;
@@ -98,20 +98,20 @@ fn take_beside<Rt: Threads + Wait + Sync, F: File + Send>(
     results: &ResultQueue,
     count: u32,
 ) -> u64
-    requires worker { IsOf requests.now worker.old.asks × IsOf results.now worker.old.answers }
-    requires answers { IsOf results.now answers.old }
-    ensures worker { IsOf requests.now worker.new.asks × IsOf results.now worker.new.answers }
-    ensures answers { IsOf results.now answers.new }
+    requires worker { IsPassOfQueue requests.now worker.old.asks × IsPassOfQueue results.now worker.old.answers }
+    requires answers { IsPassOfQueue results.now answers.old }
+    ensures worker { IsPassOfQueue requests.now worker.new.asks × IsPassOfQueue results.now worker.new.answers }
+    ensures answers { IsPassOfQueue results.now answers.new }
 {
     let (_, sum) = join_mut(
         rt,
         &mut || -> ()
-            requires { IsSync Rt.row × IsSend F.row × IsOf requests.now worker.now.asks × IsOf results.now worker.now.answers }
-            ensures { IsOf requests.entry.now worker.exit.now.asks × IsOf results.entry.now worker.exit.now.answers }
+            requires { IsSync Rt.row × IsSend F.row × IsPassOfQueue requests.now worker.now.asks × IsPassOfQueue results.now worker.now.answers }
+            ensures { IsPassOfQueue requests.entry.now worker.exit.now.asks × IsPassOfQueue results.entry.now worker.exit.now.answers }
         { worker.work(rt, requests, results) },
         &mut || -> u64
-            requires { IsSync Rt.row × IsOf results.now answers.now }
-            ensures { IsOf results.entry.now answers.exit.now }
+            requires { IsSync Rt.row × IsPassOfQueue results.now answers.now }
+            ensures { IsPassOfQueue results.entry.now answers.exit.now }
         { sum_taken(rt, results, answers, count) },
     );
     sum
@@ -137,11 +137,11 @@ fn worker_of(
     answers: &mut QueuePass<Loaded>,
     loader: u32,
 ) -> Option<Worker<MemoryFile>>
-    requires asks { IsOf requests.now asks.old }
-    requires answers { IsOf results.now answers.old }
-    ensures asks { IsOf requests.now asks.new }
-    ensures answers { IsOf results.now answers.new }
-    ensures worker { IfSome result (λ w. IsOf requests.now w.asks × IsOf results.now w.answers) }
+    requires asks { IsPassOfQueue requests.now asks.old }
+    requires answers { IsPassOfQueue results.now answers.old }
+    ensures asks { IsPassOfQueue requests.now asks.new }
+    ensures answers { IsPassOfQueue results.now answers.new }
+    ensures worker { IfSome result (λ w. IsPassOfQueue requests.now w.asks × IsPassOfQueue results.now w.answers) }
 {
     let asks = requests.split(alloc, asks).ok()?;
     let answers = results.split(alloc, answers).ok()?;
@@ -160,8 +160,8 @@ fn ask_three<Rt: Threads + Wait>(
     requests: &RequestQueue,
     asks: &mut QueuePass<Request>,
 ) -> bool
-    requires { IsOf requests.now asks.old }
-    ensures { IsOf requests.now asks.new }
+    requires { IsPassOfQueue requests.now asks.old }
+    ensures { IsPassOfQueue requests.now asks.new }
 {
     let is_first = ask(rt, alloc, requests, asks, 1, 3, &[0; 12]);
     let is_second = ask(rt, alloc, requests, asks, 2, 0, &[0; 12]);
@@ -178,9 +178,9 @@ fn work_two<Rt: Threads + Wait + Sync>(
     results: &ResultQueue,
     answers: &mut QueuePass<Loaded>,
 ) -> bool
-    requires asks { IsOf requests.now asks.old }
-    requires answers { IsOf results.now answers.old }
-    ensures { IsOf results.now answers.new }
+    requires asks { IsPassOfQueue requests.now asks.old }
+    requires answers { IsPassOfQueue results.now answers.old }
+    ensures { IsPassOfQueue results.now answers.new }
 {
     let Some(mut first) = worker_of(alloc, folder, requests, asks, results, answers, 0) else {
         return false;
@@ -251,8 +251,8 @@ fn work_one<Rt: Threads + Wait + Sync>(
     results: &ResultQueue,
     answers: &mut QueuePass<Loaded>,
 ) -> u64
-    requires asks { IsOf requests.now asks.old }
-    requires answers { IsOf results.now answers.old }
+    requires asks { IsPassOfQueue requests.now asks.old }
+    requires answers { IsPassOfQueue results.now answers.old }
 {
     match worker_of(alloc, folder, requests, asks, results, answers, 0) {
         Some(mut worker) => {

@@ -5,7 +5,7 @@ ghost use Rattle.vt_tiles.specs.Depths.{IsDepth};
 ghost use Rattle.vt_pages.specs.Pages.{pages_of};
 ghost use Rattle.vt_journal.specs.Changes.{newest, IsFree};
 ghost use Rattle.vt_table.specs.Views.{IsTile};
-ghost use Rattle.vt_sampler.specs.Notes.{MapsRoot};
+ghost use Rattle.vt_sampler.specs.Notes.{TableMapsRoot};
 
 use std::alloc::Global;
 use vt_journal::Change;
@@ -63,7 +63,7 @@ pub fn table_from(
     requires from { from < 5 }
     requires depth { IsDepth depth }
     ensures shape { IfOk result (λ t. t.shape ≡ geometry.now) }
-    ensures root { IfOk result MapsRoot }
+    ensures root { IfOk result TableMapsRoot }
 {
     let mut table = StillTable::new(alloc, geometry, 5 - from)?;
     table.reserve(5)?;

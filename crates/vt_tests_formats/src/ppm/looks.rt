@@ -109,7 +109,7 @@ fn are_asked(folder: &MemoryFolder, places: &[(u64, u64)]) -> bool {
     folder.asked("t", places.len()).is_none()
 }
 
-// Whether this is found in `t`, and where places are told, no others are asked for.
+// Whether this is found in `t`, and where places are known, no others are asked for.
 fn is_found_in<Rt: Threads + Sync>(
     rt: &Rt,
     alloc: Global,
@@ -124,7 +124,7 @@ fn is_found_in<Rt: Threads + Sync>(
     }
 }
 
-/// Whether this is found in these bytes where these calls fail, and where places are told, as their starts and lengths, no others are read.
+/// Whether this is found in these bytes where these calls fail, and where places are known, as their starts and lengths, no others are read.
 pub fn finds<Rt: Threads + Sync>(
     rt: &Rt,
     alloc: Global,

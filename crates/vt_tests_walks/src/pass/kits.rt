@@ -10,11 +10,11 @@ ghost use Rattle.vt_tiles.specs.Format.{tile_length, tile_start};
 ghost use Rattle.vt_streamer.specs.TableViews.{IsTile};
 ghost use Rattle.vt_streamer.specs.Views.{IsStreamerOf};
 ghost use Rattle.vt_machine.specs.Jobs.{job_of};
-ghost use Rattle.vt_machine.specs.Machines.{told_by};
+ghost use Rattle.vt_machine.specs.Machines.{known_bytes};
 ghost use Rattle.vt_machine.specs.Outcomes.{IsBatchFor};
 ghost use Rattle.vt_machine.specs.Passes.{IsJobFor};
 ghost use Rattle.vt_pass.specs.Placed.{HasPlaced};
-ghost use Rattle.vt_pass.specs.Kits.{kit_setup, IsIdleKit};
+ghost use Rattle.vt_pass.specs.WorkerPools.{pool_setup, IsIdlePool};
 
 use crate::cases::{Case, Deed, check};
 use crate::fixtures::{FOUR, HEADER, ONE_PICTURE, ROOT_TILE, TILE_0, TILE_2};
@@ -60,52 +60,52 @@ fn place(words: &Words, streamer: &mut Streamer, page: u32, tile: &[u8]) -> bool
 // Prepares a pass for a batch, and runs it, where the journal is short and maps the root.
 fn pass<Rt: Threads + Wait + Sync, F: File + Send>(
     rt: &Rt,
-    kit: &mut PassKit<F>,
+    pool: &mut PassKit<F>,
     words: &Words,
     streamer: &mut Streamer,
     shot: &Shot<'_>,
     batch: &Batch,
 ) -> Option<PassReport>
-    requires idle { IsIdleKit F.File words.now streamer.old kit.old.kit }
+    requires idle { IsIdlePool F.File words.now streamer.old pool.old.pool }
     requires lawful { IsBatchFor streamer.old.shape (length streamer.old.owners)
         (newest streamer.old.writer.journal) batch.now.elements }
-    requires few { length batch.now.elements ≤ kit.old.kit.crew.batch }
-    requires job { IsJobFor (kit_setup F.File words.now kit.old.kit) (job_of shot.now []) }
-    ensures idle { IfSome result (λ _. IsIdleKit F.File words.now streamer.new kit.new.kit) }
-    ensures job { IfSome result (λ _. IsJobFor (kit_setup F.File words.now kit.new.kit) (job_of shot.now [])) }
+    requires few { length batch.now.elements ≤ pool.old.pool.crew.batch }
+    requires job { IsJobFor (pool_setup F.File words.now pool.old.pool) (job_of shot.now []) }
+    ensures idle { IfSome result (λ _. IsIdlePool F.File words.now streamer.new pool.new.pool) }
+    ensures job { IfSome result (λ _. IsJobFor (pool_setup F.File words.now pool.new.pool) (job_of shot.now [])) }
 {
     if streamer.journal().version() > 1000
         || streamer.frame_of(root_page(shot.geometry)).is_none()
-        || kit.prepare(words, streamer, batch).is_err()
+        || pool.prepare(words, streamer, batch).is_err()
     {
         return None;
     }
-    Some(run_pass(rt, kit, words, streamer, shot, batch, &OpenGate))
+    Some(run_pass(rt, pool, words, streamer, shot, batch, &OpenGate))
 }
 
 // Runs a pass: whether that comes of it.
 fn runs<Rt: Threads + Wait + Sync, F: File + Send>(
     rt: &Rt,
     alloc: Global,
-    kit: &mut PassKit<F>,
+    pool: &mut PassKit<F>,
     words: &Words,
     streamer: &mut Streamer,
     shot: &Shot<'_>,
     batch: &Batch,
     expected: &Expected<'_>,
 ) -> bool
-    requires idle { IsIdleKit F.File words.now streamer.old kit.old.kit }
+    requires idle { IsIdlePool F.File words.now streamer.old pool.old.pool }
     requires lawful { IsBatchFor streamer.old.shape (length streamer.old.owners)
         (newest streamer.old.writer.journal) batch.now.elements }
-    requires few { length batch.now.elements ≤ kit.old.kit.crew.batch }
-    requires job { IsJobFor (kit_setup F.File words.now kit.old.kit) (job_of shot.now []) }
-    ensures idle { OnTrue result (IsIdleKit F.File words.now streamer.new kit.new.kit) }
-    ensures job { OnTrue result (IsJobFor (kit_setup F.File words.now kit.new.kit) (job_of shot.now [])) }
+    requires few { length batch.now.elements ≤ pool.old.pool.crew.batch }
+    requires job { IsJobFor (pool_setup F.File words.now pool.old.pool) (job_of shot.now []) }
+    ensures idle { OnTrue result (IsIdlePool F.File words.now streamer.new pool.new.pool) }
+    ensures job { OnTrue result (IsJobFor (pool_setup F.File words.now pool.new.pool) (job_of shot.now [])) }
 {
-    match pass(rt, kit, words, streamer, shot, batch) {
+    match pass(rt, pool, words, streamer, shot, batch) {
         Some(report) => {
-            let wanted = kit.counts().wanted(alloc, shot.geometry);
-            expected.came(&report, kit.picture(alloc), wanted)
+            let wanted = pool.counts().wanted(alloc, shot.geometry);
+            expected.came(&report, pool.picture(alloc), wanted)
         }
         None => false,
     }
@@ -159,50 +159,50 @@ static LOADS_NONE: Expected<'static> = Expected {
 fn run_both<Rt: Threads + Wait + Sync, F: File + Send>(
     rt: &Rt,
     alloc: Global,
-    kit: &mut PassKit<F>,
+    pool: &mut PassKit<F>,
     words: &Words,
     streamer: &mut Streamer,
     shot: &Shot<'_>,
 ) -> bool
-    requires idle { IsIdleKit F.File words.now streamer.old kit.old.kit }
+    requires idle { IsIdlePool F.File words.now streamer.old pool.old.pool }
     requires journal { streamer.old.writer.journal ≡ MapEntry 4 0 ∷ [] }
     requires pages { pages_of streamer.old.shape ≡ 5 }
     requires frames { length streamer.old.owners ≡ 3 }
-    requires entries { kit.old.kit.crew.batch ≡ 2 }
-    requires job { IsJobFor (kit_setup F.File words.now kit.old.kit) (job_of shot.now []) }
+    requires entries { pool.old.pool.crew.batch ≡ 2 }
+    requires job { IsJobFor (pool_setup F.File words.now pool.old.pool) (job_of shot.now []) }
 {
     let Ok(batch) = two_pages(alloc) else {
         return false;
     };
     let none = Items::new(alloc);
-    runs(rt, alloc, kit, words, streamer, shot, &batch, &LOADS_ONE)
-        && runs(rt, alloc, kit, words, streamer, shot, &none, &LOADS_NONE)
+    runs(rt, alloc, pool, words, streamer, shot, &batch, &LOADS_ONE)
+        && runs(rt, alloc, pool, words, streamer, shot, &none, &LOADS_NONE)
 }
 
 // Places the root, and runs the passes.
 fn place_and_run<Rt: Threads + Wait + Sync, F: File + Send>(
     rt: &Rt,
     alloc: Global,
-    kit: &mut PassKit<F>,
+    pool: &mut PassKit<F>,
     words: &Words,
     streamer: &mut Streamer,
     shot: &Shot<'_>,
     tile: &[u8],
 ) -> bool
-    requires idle { IsIdleKit F.File words.now streamer.old kit.old.kit }
+    requires idle { IsIdlePool F.File words.now streamer.old pool.old.pool }
     requires journal { streamer.old.writer.journal ≡ [] }
     requires pages { pages_of streamer.old.shape ≡ 5 }
     requires frames { length streamer.old.owners ≡ 3 }
-    requires entries { kit.old.kit.crew.batch ≡ 2 }
-    requires job { IsJobFor (kit_setup F.File words.now kit.old.kit) (job_of shot.now []) }
-    requires depth { kit.old.kit.depth ≡ 1 }
-    requires size { length tile.now ≡ tile_length kit.old.kit.shape 1 }
-    requires tile { IfSome (told_by F.File kit.old.kit.stores) (λ b. IsPiece b (tile_start kit.old.kit.shape 1 4) tile.now) }
+    requires entries { pool.old.pool.crew.batch ≡ 2 }
+    requires job { IsJobFor (pool_setup F.File words.now pool.old.pool) (job_of shot.now []) }
+    requires depth { pool.old.pool.depth ≡ 1 }
+    requires size { length tile.now ≡ tile_length pool.old.pool.shape 1 }
+    requires tile { IfSome (known_bytes F.File pool.old.pool.stores) (λ b. IsPiece b (tile_start pool.old.pool.shape 1 4) tile.now) }
 {
-    place(words, streamer, 4, tile) && run_both(rt, alloc, kit, words, streamer, shot)
+    place(words, streamer, 4, tile) && run_both(rt, alloc, pool, words, streamer, shot)
 }
 
-// Makes words of three frames and a kit over the store of a folder, and runs the passes.
+// Makes words of three frames and a pool over the store of a folder, and runs the passes.
 fn drive<Rt: Abort + Threads + Wait + Sync, D: Folder>(
     rt: &Rt,
     alloc: Global,
@@ -229,9 +229,9 @@ fn drive<Rt: Abort + Threads + Wait + Sync, D: Folder>(
         panic!(rt; "no words");
     };
     match PassKit::new(alloc, &geometry, path, &crew, 1, stores) {
-        Ok(mut kit) => {
-            let right = place_and_run(rt, alloc, &mut kit, &words, &mut streamer, &shot, &tile);
-            close_all(folder, kit.end());
+        Ok(mut pool) => {
+            let right = place_and_run(rt, alloc, &mut pool, &words, &mut streamer, &shot, &tile);
+            close_all(folder, pool.end());
             right
         }
         Err((stores, _)) => {

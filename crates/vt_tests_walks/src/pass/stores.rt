@@ -4,7 +4,7 @@ ghost use Rattle.std.specs.Prelude.{◌≡◌, ◌<◌, IfSome};
 ghost use Rattle.vt_outside.specs.Files.{IsPiece};
 ghost use Rattle.vt_pages.specs.Pages.{pages_of, root_of};
 ghost use Rattle.vt_tiles.specs.Format.{tile_start};
-ghost use Rattle.vt_machine.specs.Machines.{told_by, AreStoresFor};
+ghost use Rattle.vt_machine.specs.Machines.{known_bytes, AreStoresFor};
 
 use crate::fixtures::open_store;
 use std::alloc::Global;
@@ -48,7 +48,7 @@ pub fn open_with_root<D: Folder>(
 /// The stores of one loader.
 pub fn one_store<F: File>(rt: &impl Abort, alloc: Global, store: Store<F>) -> Stores<F>
     ensures stores { AreStoresFor F.File store.shape store.depth 1 result.elements }
-    ensures told { told_by F.File result.elements ≡ F.bytes store.file }
+    ensures known { known_bytes F.File result.elements ≡ F.bytes store.file }
 {
     let mut stores = Stores::new(alloc);
     assert!(rt; stores.reserve(1).is_ok());

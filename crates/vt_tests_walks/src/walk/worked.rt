@@ -36,7 +36,7 @@ pub struct Walk<'a> {
 // Opens the store of a folder, after its path, as the program does.
 fn open_after_path<D: Folder>(rt: &impl Abort, folder: &mut D, name: &str) -> Store<D::File>
     ensures bytes { D.File.bytes result.file ≡ bytes_at (D.files folder.new) name.now }
-    ensures tells { is_some (D.File.bytes result.file) ≡ is_some (D.files folder.new) }
+    ensures known_too { is_some (D.File.bytes result.file) ≡ is_some (D.files folder.new) }
     ensures opened { AreOpen 1 name.now (D.asked folder.new) (file_state D.File.File result.file ∷ []) }
 {
     let Ok(path) = folder.open("p") else {

@@ -3,7 +3,7 @@
 ghost use Rattle.std.specs.Prelude.{◌≡◌, ◌<◌, IfSome, false};
 ghost use Rattle.vt_grace.specs.WriterViews.{is_out};
 ghost use Rattle.vt_grace.specs.Tokens.{IsPassOf};
-ghost use Rattle.vt_tests_words.specs.BlankStreams.{IsBlank};
+ghost use Rattle.vt_tests_words.specs.BlankStreams.{IsBlankStreamer};
 
 use crate::measured::fills::is_filled;
 use crate::measured::reads::{hold, read_entries, read_words};
@@ -35,7 +35,7 @@ enum Calls {
 
 // The words of 3 frames and one sampler, and their streamer.
 fn blank_streamer(alloc: Global) -> Option<(Words, Streamer)>
-    ensures blank { IfSome result (λ made. IsBlank made.0 made.1) }
+    ensures blank { IfSome result (λ made. IsBlankStreamer made.0 made.1) }
     ensures samplers { IfSome result (λ made. made.0.sizes.samplers ≡ 1) }
     ensures none_out { IfSome result (λ made. is_out made.1.writer 0 ≡ false) }
 {
@@ -71,7 +71,7 @@ fn make(words: &Words, pass: Pass, calls: Calls) -> (Pass, u64)
 
 // What the calls answer together once page 0 is mapped to frame 1, which was filled so often; 0 where it is not mapped.
 fn answered(words: &Words, streamer: &mut Streamer, tile: &[u8], fills: u64, calls: Calls) -> u64
-    requires blank { IsBlank words.now streamer.old }
+    requires blank { IsBlankStreamer words.now streamer.old }
     requires samplers { words.now.sizes.samplers ≡ 1 }
     requires none_out { is_out streamer.old.writer 0 ≡ false }
 {

@@ -4,8 +4,8 @@ ghost use Rattle.std.specs.Prelude.{◌≡◌, Some};
 ghost use Rattle.std.specs.Bool.{MatchBool};
 ghost use Rattle.vt_streamer.specs.TableViews.{IsTile, filled_for};
 ghost use Rattle.vt_grace.specs.Banks.{MayFill};
-ghost use Rattle.vt_streamer.specs.Views.{IsStreamerOf, table_of};
-ghost use Rattle.vt_tests_words.specs.BlankStreams.{IsBlank};
+ghost use Rattle.vt_streamer.specs.Views.{IsStreamerOf, streamer_table};
+ghost use Rattle.vt_tests_words.specs.BlankStreams.{IsBlankStreamer};
 
 use vt_grace::Words;
 use vt_journal::Change;
@@ -28,11 +28,11 @@ fn is_tile(streamer: &Streamer, tile: &[u8]) -> bool
 
 // Fills frame 1 with a tile for page 0 once, and then so often.
 fn fill(words: &Words, streamer: &mut Streamer, tile: &[u8], times: u64)
-    requires blank { IsBlank words.now streamer.old }
+    requires blank { IsBlankStreamer words.now streamer.old }
     requires may { MayFill streamer.old.writer 1 }
     requires tile { IsTile streamer.old.shape tile.now }
-    ensures blank { IsBlank words.now streamer.new }
-    ensures filled { filled_for (table_of streamer.new) 1 ≡ Some 0 }
+    ensures blank { IsBlankStreamer words.now streamer.new }
+    ensures filled { filled_for (streamer_table streamer.new) 1 ≡ Some 0 }
 {
     streamer.fill(words, 1, 0, tile);
     for time in 0..times {
@@ -42,7 +42,7 @@ fn fill(words: &Words, streamer: &mut Streamer, tile: &[u8], times: u64)
 
 /// Whether frame 1 is filled once, and then so often, and page 0 is mapped to it.
 pub(crate) fn is_filled(words: &Words, streamer: &mut Streamer, tile: &[u8], times: u64) -> bool
-    requires { IsBlank words.now streamer.old }
+    requires { IsBlankStreamer words.now streamer.old }
     ensures { IsStreamerOf words.now streamer.new }
 {
     if !is_tile(streamer, tile) || streamer.try_free(words, 1).is_err() {

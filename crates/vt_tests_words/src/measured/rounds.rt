@@ -1,7 +1,7 @@
 //! Pages are mapped and unmapped, over a texture of 4x4 texels in tiles of side 2.
 
 ghost use Rattle.std.specs.Prelude.{◌<◌};
-ghost use Rattle.vt_tests_words.specs.SmallStreams.{IsSmall};
+ghost use Rattle.vt_tests_words.specs.SmallStreams.{IsSmallStreamer};
 
 use crate::streamer::small::{mapped, small_streamer, unmapped};
 use std::alloc::Global;
@@ -19,10 +19,10 @@ const TILE: [u8; 12] = [1, 2, 3, 4, 5, 6, 7, 8, 9, 10, 11, 12];
 
 // Whether a page was mapped to a frame, with a tile that was filled in, and unmapped.
 fn is_played(words: &Words, streamer: &mut Streamer, page: u32, frame: u32) -> bool
-    requires small { IsSmall words.now 3 streamer.old }
+    requires small { IsSmallStreamer words.now 3 streamer.old }
     requires page { page < 4 }
     requires frame { frame < 3 }
-    ensures { IsSmall words.now 3 streamer.new }
+    ensures { IsSmallStreamer words.now 3 streamer.new }
 {
     let is_mapped = match mapped(words, streamer, 3, page, frame, &TILE) {
         Some(Ok(_)) => true,
@@ -37,8 +37,8 @@ fn is_played(words: &Words, streamer: &mut Streamer, page: u32, frame: u32) -> b
 
 // Plays the rounds on a table: the pages 0 to 3 in turn, each to the one of the frames 1 and 2 that was not used last.
 fn play(words: &Words, streamer: &mut Streamer) -> bool
-    requires { IsSmall words.now 3 streamer.old }
-    ensures { IsSmall words.now 3 streamer.new }
+    requires { IsSmallStreamer words.now 3 streamer.old }
+    ensures { IsSmallStreamer words.now 3 streamer.new }
 {
     let mut is_done = true;
     for round in 0..ROUNDS {

@@ -4,9 +4,9 @@ ghost use Rattle.std.specs.Prelude.{◌≡◌, ◌≤◌, ◌<◌, ◌^◌, fals
 ghost use Rattle.std.specs.Bool.{MatchBool};
 ghost use Rattle.vt_grace.specs.WriterViews.{is_out};
 ghost use Rattle.vt_grace.specs.Tokens.{IsPassOf};
-ghost use Rattle.vt_queue.specs.Queues.{IsOf};
+ghost use Rattle.vt_queue.specs.Queues.{IsPassOfQueue};
 ghost use Rattle.vt_requests.specs.BlankReports.{IsBlank};
-ghost use Rattle.vt_tests_words.specs.SmallStreams.{IsSmall};
+ghost use Rattle.vt_tests_words.specs.SmallStreams.{IsSmallStreamer};
 
 use crate::streamer::beside::read_page;
 use crate::streamer::lawful::is_lawful;
@@ -79,8 +79,8 @@ fn is_put<Rt: Threads + Wait>(
     outcome: Outcome,
 ) -> bool
     requires ticket { ticket < 2 ^ 16 }
-    requires of { IsOf results.now answers.old }
-    ensures { IsOf results.now answers.new }
+    requires of { IsPassOfQueue results.now answers.old }
+    ensures { IsPassOfQueue results.now answers.new }
 {
     let Ok(buffer) = Bytes::from_slice(alloc, tile) else {
         return false;
@@ -103,8 +103,8 @@ fn are_put<Rt: Threads + Wait>(
     results: &ResultQueue,
     answers: &mut QueuePass<Loaded>,
 ) -> bool
-    requires { IsOf results.now answers.old }
-    ensures { IsOf results.now answers.new }
+    requires { IsPassOfQueue results.now answers.old }
+    ensures { IsPassOfQueue results.now answers.new }
 {
     let high = is_put(rt, alloc, results, answers, 3, &OTHER_TILE, Outcome::Read);
     let short = is_put(
@@ -194,8 +194,8 @@ fn is_seen(words: &Words, pass: Pass) -> (Pass, bool)
 
 // Makes room for the changes of three entries.
 fn is_ready(words: &Words, streamer: &mut Streamer) -> bool
-    requires { IsSmall words.now 4 streamer.old }
-    ensures small { IsSmall words.now 4 streamer.new }
+    requires { IsSmallStreamer words.now 4 streamer.old }
+    ensures small { IsSmallStreamer words.now 4 streamer.new }
     ensures room { MatchBool result (6 ≤ streamer.new.spare) (Unit {0}) }
 {
     if streamer.journal().version() > 1_000_000_000 {
@@ -212,9 +212,9 @@ fn is_streamed<Rt: Threads + Wait>(
     streamer: &mut Streamer,
     report: &mut StreamReport,
 ) -> bool
-    requires small { IsSmall words.now 4 streamer.old }
+    requires small { IsSmallStreamer words.now 4 streamer.old }
     requires report { IsBlank 3 report.old }
-    ensures { IsSmall words.now 4 streamer.new }
+    ensures { IsSmallStreamer words.now 4 streamer.new }
 {
     let Ok((results, mut answers)) = Queue::new(alloc, 6) else {
         return false;
@@ -246,7 +246,7 @@ fn is_true<Rt: Threads + Wait>(
     streamer: &mut Streamer,
     report: &mut StreamReport,
 ) -> bool
-    requires small { IsSmall words.now 4 streamer.old }
+    requires small { IsSmallStreamer words.now 4 streamer.old }
     requires samplers { words.now.sizes.samplers ≡ 1 }
     requires none_out { is_out streamer.old.writer 0 ≡ false }
     requires report { IsBlank 3 report.old }

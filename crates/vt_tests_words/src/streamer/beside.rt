@@ -3,7 +3,7 @@
 ghost use Rattle.std.specs.Prelude.{◌≡◌, ◌<◌, ◌≤◌, length, false};
 ghost use Rattle.vt_grace.specs.WriterViews.{is_out};
 ghost use Rattle.vt_grace.specs.Tokens.{IsPassOf, IsHeldOf};
-ghost use Rattle.vt_tests_words.specs.SmallStreams.{IsSmall};
+ghost use Rattle.vt_tests_words.specs.SmallStreams.{IsSmallStreamer};
 
 use crate::streamer::patient::{comes_in, goes_out};
 use crate::streamer::small::small_streamer;
@@ -36,8 +36,8 @@ fn tile_of(round: u64) -> [u8; 12] {
 
 // Maps and unmaps the pages 0 to 3 in turn, each to the one of the frames 1 and 2 that was not used last. Round r is mapped by version 2r + 2.
 fn stream(words: &Words, mut streamer: Streamer) -> (Streamer, bool)
-    requires { IsSmall words.now 3 streamer }
-    ensures { IsSmall words.now 3 result.0 }
+    requires { IsSmallStreamer words.now 3 streamer }
+    ensures { IsSmallStreamer words.now 3 result.0 }
 {
     let mut is_done = true;
     for round in 0..ROUNDS {
@@ -145,9 +145,9 @@ fn run_both<R: Threads + Sync>(
     pass: Pass,
     rows: Vec<Seen>,
 ) -> (Streamer, bool, Pass, Vec<Seen>)
-    requires small { IsSmall words.now 3 streamer }
+    requires small { IsSmallStreamer words.now 3 streamer }
     requires of { IsPassOf words.now pass }
-    ensures small { IsSmall words.now 3 result.0 }
+    ensures small { IsSmallStreamer words.now 3 result.0 }
     ensures of { IsPassOf words.now result.2 }
 {
     let samples = move || -> (Pass, Vec<Seen>)
@@ -155,8 +155,8 @@ fn run_both<R: Threads + Sync>(
         ensures { IsPassOf words.entry.now result.0 }
     { sample(words, pass, rows) };
     let streams = move || -> (Streamer, bool)
-        requires { IsSmall words.now 3 streamer }
-        ensures { IsSmall words.entry.now 3 result.0 }
+        requires { IsSmallStreamer words.now 3 streamer }
+        ensures { IsSmallStreamer words.entry.now 3 result.0 }
     { stream(words, streamer) };
     let ((pass, rows), (streamer, is_done)) = join(rt, samples, streams);
     (streamer, is_done, pass, rows)
@@ -169,7 +169,7 @@ fn is_true_beside<R: Threads + Sync>(
     words: &Words,
     mut streamer: Streamer,
 ) -> bool
-    requires small { IsSmall words.now 3 streamer }
+    requires small { IsSmallStreamer words.now 3 streamer }
     requires samplers { words.now.sizes.samplers ≡ 1 }
     requires none_out { is_out streamer.writer 0 ≡ false }
 {

@@ -2,7 +2,7 @@
 
 ghost use Rattle.std.specs.Prelude.{◌≡◌, false};
 ghost use Rattle.vt_grace.specs.WriterViews.{is_out};
-ghost use Rattle.vt_tests_words.specs.SmallStreams.{IsSmall};
+ghost use Rattle.vt_tests_words.specs.SmallStreams.{IsSmallStreamer};
 
 use crate::streamer::small::{freed, mapped, small_streamer, unmapped};
 use std::alloc::Global;
@@ -28,8 +28,8 @@ fn is_behind(waiting: Waiting) -> bool {
 
 // Whether page 4 is mapped to frame 0 by version 1, and pages 0 to 3 to the frames 1 to 4 by the versions 2 to 5.
 fn are_mapped(words: &Words, streamer: &mut Streamer) -> bool
-    requires { IsSmall words.now 5 streamer.old }
-    ensures { IsSmall words.now 5 streamer.new }
+    requires { IsSmallStreamer words.now 5 streamer.old }
+    ensures { IsSmallStreamer words.now 5 streamer.new }
 {
     let first = mapped(words, streamer, 5, 4, 0, &TILE);
     let second = mapped(words, streamer, 5, 0, 1, &TILE);
@@ -45,8 +45,8 @@ fn are_mapped(words: &Words, streamer: &mut Streamer) -> bool
 
 // Whether the pages 0, 1 and 2 are unmapped by the versions 6, 7 and 8.
 fn are_unmapped(words: &Words, streamer: &mut Streamer) -> bool
-    requires { IsSmall words.now 5 streamer.old }
-    ensures { IsSmall words.now 5 streamer.new }
+    requires { IsSmallStreamer words.now 5 streamer.old }
+    ensures { IsSmallStreamer words.now 5 streamer.new }
 {
     let first = unmapped(words, streamer, 5, 0, 1);
     let second = unmapped(words, streamer, 5, 1, 2);
@@ -56,8 +56,8 @@ fn are_unmapped(words: &Words, streamer: &mut Streamer) -> bool
 
 // Whether frame 1 is not free yet and page 3 cannot be unmapped yet.
 fn are_waiting(words: &Words, streamer: &mut Streamer) -> bool
-    requires { IsSmall words.now 5 streamer.old }
-    ensures { IsSmall words.now 5 streamer.new }
+    requires { IsSmallStreamer words.now 5 streamer.old }
+    ensures { IsSmallStreamer words.now 5 streamer.new }
 {
     let first = match freed(words, streamer, 5, 1) {
         Some(Err(waiting)) => is_behind(waiting),
@@ -72,8 +72,8 @@ fn are_waiting(words: &Words, streamer: &mut Streamer) -> bool
 
 // Whether frame 1 is free and page 3 is unmapped by version 9.
 fn are_done(words: &Words, streamer: &mut Streamer) -> bool
-    requires { IsSmall words.now 5 streamer.old }
-    ensures { IsSmall words.now 5 streamer.new }
+    requires { IsSmallStreamer words.now 5 streamer.old }
+    ensures { IsSmallStreamer words.now 5 streamer.new }
 {
     let first = match freed(words, streamer, 5, 1) {
         Some(Ok(())) => true,
@@ -85,7 +85,7 @@ fn are_done(words: &Words, streamer: &mut Streamer) -> bool
 
 // Whether a sampler that holds version 5 is waited for, reads of it what it says, and is waited for no more once it holds nothing.
 fn is_kept(words: &Words, streamer: &mut Streamer) -> bool
-    requires small { IsSmall words.now 5 streamer.old }
+    requires small { IsSmallStreamer words.now 5 streamer.old }
     requires samplers { words.now.sizes.samplers ≡ 1 }
     requires none_out { is_out streamer.old.writer 0 ≡ false }
 {

@@ -5,7 +5,7 @@ ghost use Rattle.std.specs.Bool.{MatchBool};
 ghost use Rattle.vt_journal.specs.Changes.{newest, IsFree};
 ghost use Rattle.vt_evict.specs.PlanTypes.batches.Planned.{Planned as Entry};
 ghost use Rattle.vt_streaming.specs.Outcomes.{IsEntryFor, IsVictimOf, IsBatchFor};
-ghost use Rattle.vt_tests_words.specs.SmallStreams.{IsSmall, AreOther};
+ghost use Rattle.vt_tests_words.specs.SmallStreams.{IsSmallStreamer, AreOther};
 
 use crate::streamer::small::{is_mapped_to, is_unmapped, is_unused};
 use vt_evict::Planned;
@@ -14,7 +14,7 @@ use vt_streamer::Streamer;
 
 // Whether a page that is not the root is mapped to a frame.
 fn is_victim(words: &Words, streamer: &Streamer, frames: u32, frame: u32, page: u32) -> bool
-    requires { IsSmall words.now frames streamer.now }
+    requires { IsSmallStreamer words.now frames streamer.now }
     ensures { MatchBool result (IsVictimOf streamer.now.shape (newest streamer.now.writer.journal) frame page)
         (Unit {0}) }
 {
@@ -23,7 +23,7 @@ fn is_victim(words: &Words, streamer: &Streamer, frames: u32, frame: u32, page: 
 
 // Whether an entry's frame is its victim's, or free.
 fn has_place(words: &Words, streamer: &Streamer, frames: u32, planned: &Planned) -> bool
-    requires { IsSmall words.now frames streamer.now }
+    requires { IsSmallStreamer words.now frames streamer.now }
     ensures { MatchBool result (MatchOption planned.now.victim
         (IsFree (newest streamer.now.writer.journal) planned.now.frame)
         (IsVictimOf streamer.now.shape (newest streamer.now.writer.journal) planned.now.frame)) (Unit {0}) }
@@ -36,7 +36,7 @@ fn has_place(words: &Words, streamer: &Streamer, frames: u32, planned: &Planned)
 
 // Whether an entry is lawful.
 fn is_entry(words: &Words, streamer: &Streamer, frames: u32, planned: &Planned) -> bool
-    requires { IsSmall words.now frames streamer.now }
+    requires { IsSmallStreamer words.now frames streamer.now }
     ensures { MatchBool result (IsEntryFor streamer.now.shape frames (newest streamer.now.writer.journal) planned.now)
         (Unit {0}) }
 {
@@ -48,7 +48,7 @@ fn is_entry(words: &Words, streamer: &Streamer, frames: u32, planned: &Planned) 
 
 // Whether each entry is lawful.
 fn are_entries(words: &Words, streamer: &Streamer, frames: u32, batch: &[Planned]) -> bool
-    requires { IsSmall words.now frames streamer.now }
+    requires { IsSmallStreamer words.now frames streamer.now }
     ensures { MatchBool result (All (IsEntryFor streamer.now.shape frames (newest streamer.now.writer.journal)) batch.now)
         (Unit {0}) }
 {
@@ -95,7 +95,7 @@ fn are_apart(batch: &[Planned]) -> bool
 
 /// Whether a batch is lawful for the newest version.
 pub(crate) fn is_lawful(words: &Words, streamer: &Streamer, frames: u32, batch: &[Planned]) -> bool
-    requires { IsSmall words.now frames streamer.now }
+    requires { IsSmallStreamer words.now frames streamer.now }
     ensures { MatchBool result (IsBatchFor streamer.now.shape (length streamer.now.owners)
         (newest streamer.now.writer.journal) batch.now)
         (Unit {0}) }

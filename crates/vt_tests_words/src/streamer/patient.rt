@@ -1,7 +1,7 @@
 //! Changes of a small streamer of three frames that wait for the sampler by being tried again.
 
 ghost use Rattle.std.specs.Prelude.{◌≡◌, ◌<◌, length};
-ghost use Rattle.vt_tests_words.specs.SmallStreams.{IsSmall};
+ghost use Rattle.vt_tests_words.specs.SmallStreams.{IsSmallStreamer};
 
 use crate::streamer::small::{mapped, unmapped};
 use vt_grace::Words;
@@ -18,11 +18,11 @@ pub(crate) fn comes_in(
     frame: u32,
     tile: &[u8],
 ) -> bool
-    requires small { IsSmall words.now 3 streamer.old }
+    requires small { IsSmallStreamer words.now 3 streamer.old }
     requires page { page < 5 }
     requires frame { frame < 3 }
     requires tile { length tile.now ≡ 12 }
-    ensures small { IsSmall words.now 3 streamer.new }
+    ensures small { IsSmallStreamer words.now 3 streamer.new }
     ensures out { streamer.new.writer.out ≡ streamer.old.writer.out }
 {
     for turn in 0..TRIES {
@@ -37,10 +37,10 @@ pub(crate) fn comes_in(
 
 /// Whether a page was unmapped.
 pub(crate) fn goes_out(words: &Words, streamer: &mut Streamer, page: u32, frame: u32) -> bool
-    requires small { IsSmall words.now 3 streamer.old }
+    requires small { IsSmallStreamer words.now 3 streamer.old }
     requires page { page < 4 }
     requires frame { frame < 3 }
-    ensures { IsSmall words.now 3 streamer.new }
+    ensures { IsSmallStreamer words.now 3 streamer.new }
 {
     for turn in 0..TRIES {
         match unmapped(words, streamer, 3, page, frame) {

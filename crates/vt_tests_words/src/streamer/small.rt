@@ -6,7 +6,7 @@ ghost use Rattle.vt_pages.specs.Pages.{pages_of};
 ghost use Rattle.vt_journal.specs.Changes.{newest, IsFree};
 ghost use Rattle.vt_grace.specs.WriterViews.{is_out};
 ghost use Rattle.vt_streamer.specs.Views.{StreamerView};
-ghost use Rattle.vt_tests_words.specs.SmallStreams.{IsSmall};
+ghost use Rattle.vt_tests_words.specs.SmallStreams.{IsSmallStreamer};
 
 use std::alloc::Global;
 use vt_grace::Words;
@@ -25,7 +25,7 @@ pub(crate) fn small_streamer(
     requires pages { pages_of geometry.now ≡ 5 }
     requires some_frame { 1 ≤ frames }
     requires few_frames { frames ≤ 5 }
-    ensures small { IfOk result (λ made. IsSmall made.0 frames made.1) }
+    ensures small { IfOk result (λ made. IsSmallStreamer made.0 frames made.1) }
     ensures samplers { IfOk result (λ made. made.0.sizes.samplers ≡ 1) }
     ensures none_out { IfOk result (λ made. is_out made.1.writer 0 ≡ false) }
     ensures shape { IfOk result (λ made. made.1.shape ≡ geometry.now) }
@@ -51,7 +51,7 @@ pub(crate) fn is_unmapped(streamer: &Streamer, page: u32) -> bool
 
 /// Whether no page is mapped to a frame.
 pub(crate) fn is_unused(words: &Words, streamer: &Streamer, frames: u32, frame: u32) -> bool
-    requires { IsSmall words.now frames streamer.now }
+    requires { IsSmallStreamer words.now frames streamer.now }
     ensures { MatchBool result (IsFree (newest streamer.now.writer.journal) frame) (Unit {0}) }
 {
     for page in 0..5 {
@@ -80,9 +80,9 @@ pub(crate) fn freed(
     frames: u32,
     frame: u32,
 ) -> Option<Result<(), Waiting>>
-    requires small { IsSmall words.now frames streamer.old }
+    requires small { IsSmallStreamer words.now frames streamer.old }
     requires inside { frame < frames }
-    ensures { IsSmall words.now frames streamer.new }
+    ensures { IsSmallStreamer words.now frames streamer.new }
 {
     if !is_unused(words, streamer, frames, frame) {
         return None;
@@ -99,11 +99,11 @@ pub(crate) fn mapped(
     frame: u32,
     tile: &[u8],
 ) -> Option<Result<u64, Waiting>>
-    requires small { IsSmall words.now frames streamer.old }
+    requires small { IsSmallStreamer words.now frames streamer.old }
     requires page { page < 5 }
     requires inside { frame < frames }
     requires tile { length tile.now ≡ 12 }
-    ensures small { IsSmall words.now frames streamer.new }
+    ensures small { IsSmallStreamer words.now frames streamer.new }
     ensures out { streamer.new.writer.out ≡ streamer.old.writer.out }
 {
     if !is_unused(words, streamer, frames, frame) || !is_unmapped(streamer, page) {
@@ -127,10 +127,10 @@ pub(crate) fn unmapped(
     page: u32,
     frame: u32,
 ) -> Option<Result<u64, Waiting>>
-    requires small { IsSmall words.now frames streamer.old }
+    requires small { IsSmallStreamer words.now frames streamer.old }
     requires page { page < 4 }
     requires inside { frame < frames }
-    ensures { IsSmall words.now frames streamer.new }
+    ensures { IsSmallStreamer words.now frames streamer.new }
 {
     if !is_mapped_to(streamer, page, frame) {
         return None;

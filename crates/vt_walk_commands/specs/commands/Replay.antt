@@ -20,9 +20,9 @@ use Rattle.vt_command_words.specs.Replay.{ReplayText}
 use Rattle.vt_command_words.specs.declared.filters.Filtering.{Filtering}
 use Rattle.vt_command_words.specs.declared.filters.Filtering.TheVariants.{Nearest, Bilinear}
 use Rattle.vt_command_inputs.specs.Lines.{end_line}
-use Rattle.vt_command_inputs.specs.Inputs.{Input, Content, PathInput, PagedStore, JournalInput, PathContent, PagedContent, TextContent}
+use Rattle.vt_command_inputs.specs.Inputs.{Input, InputContent, PathInput, PagedStore, JournalInput, PathContent, PagedContent, TextContent}
 use Rattle.vt_command_inputs.specs.Causes.{AsksSome}
-use Rattle.vt_command_inputs.specs.Reads.{FileState, Refused, Closed}
+use Rattle.vt_command_inputs.specs.Reads.{OpenFileState, Refused, Closed}
 use Rattle.vt_command_inputs.specs.Refusals.{IsRefusalOf}
 use Rattle.vt_command_inputs.specs.Tasks.{HasRisen}
 use Rattle.vt_command_inputs.specs.CommandSpecs.{CommandSpec, Conflict, FlawedBeside}
@@ -44,7 +44,7 @@ pub record ReplayOf : Type 0 where
   pub text : List ℕ
 
 -- the inputs hold these
-abbrev pub contents_of : ReplayOf → List Content
+abbrev pub contents_of : ReplayOf → List InputContent
 contents_of g = PathContent g.path ∷ PagedContent g.shape g.depth g.bytes ∷ TextContent g.text ∷ []
 
 -- the pictures of a journal, each the replay of its last pass by the words' filter, and the end line
@@ -56,7 +56,7 @@ expected_journal words g journal = record {
 
 -- the text is that of a lawful journal whose pictures are all in the path; where contents are known, each picture is there, and every other
 -- name holds what it held; and the output gained the end line
-pub record HasReplayed (words : ReplayText) (contents : List Content) (c : CallEffect) : Type 0 where
+pub record HasReplayed (words : ReplayText) (contents : List InputContent) (c : CallEffect) : Type 0 where
   pub of : ReplayOf
   pub are : contents ≡ contents_of of
   pub journal : Journal
@@ -67,7 +67,7 @@ pub record HasReplayed (words : ReplayText) (contents : List Content) (c : CallE
 
 -- the text is that of such a journal; where contents are known, some of its pictures are there, and of the next one a prefix; and the
 -- output gained a prefix of the end line, and a byte of it only where all pictures are there
-pub record HasStopped (words : ReplayText) (contents : List Content) (c : CallEffect) : Type 0 where
+pub record HasStopped (words : ReplayText) (contents : List InputContent) (c : CallEffect) : Type 0 where
   pub of : ReplayOf
   pub are : contents ≡ contents_of of
   pub journal : Journal
@@ -79,7 +79,7 @@ pub record HasStopped (words : ReplayText) (contents : List Content) (c : CallEf
       × ((k : ℕ) × (c.out.after.held ≡ option_map (gained (take k (expected_journal words of journal).text)) c.out.before.held)))
 
 -- a line of the journal is the first that is refused, or that names a picture that the path has not
-pub record HasBadLine (words : ReplayText) (contents : List Content) (conflict : Conflict) : Type 0 where
+pub record HasBadLine (words : ReplayText) (contents : List InputContent) (conflict : Conflict) : Type 0 where
   pub of : ReplayOf
   pub are : contents ≡ contents_of of
   pub line : ℕ
@@ -107,7 +107,7 @@ replay_spec words = record {
 }
 
 -- the journal was refused beside an open store, which was closed
-pub record RefusedBeside (name : List ℕ) (refusal : Refusal) (store : FileState) (p : FolderEffect) : Type 0 where
+pub record RefusedBeside (name : List ℕ) (refusal : Refusal) (store : OpenFileState) (p : FolderEffect) : Type 0 where
   pub read : FolderEffect
   pub begins : read.before ≡ p.before
   pub refused : Refused (JournalInput name) refusal read
@@ -120,8 +120,8 @@ flaw_of_replay replay.Failed = Err outside.Failed
 flaw_of_replay replay.NoMemory = Err outside.NoMemory
 
 -- the answer of a replay of the journal of a name
-abbrev pub IsAnswer : List ℕ → Result ℕ ReplayError → Result ℕ Refusal → Type 0
-IsAnswer name (Ok count) (Ok pictures) = pictures ≡ count
-IsAnswer name (Ok count) (Err refusal) = ⊥
-IsAnswer name (Err error) (Ok pictures) = ⊥
-IsAnswer name (Err error) (Err refusal) = IsRefusalOf name (flaw_of_replay error) refusal
+abbrev pub IsReplayAnswer : List ℕ → Result ℕ ReplayError → Result ℕ Refusal → Type 0
+IsReplayAnswer name (Ok count) (Ok pictures) = pictures ≡ count
+IsReplayAnswer name (Ok count) (Err refusal) = ⊥
+IsReplayAnswer name (Err error) (Ok pictures) = ⊥
+IsReplayAnswer name (Err error) (Err refusal) = IsRefusalOf name (flaw_of_replay error) refusal

@@ -18,13 +18,13 @@ use Rattle.vt_walk.specs.WalkDecisionsTypes.mode.Mode.TheVariants.{Settled}
 use Rattle.vt_walk.specs.WalkDecisionsTypes.error.WalkError.{WalkError}
 use Rattle.vt_walk.specs.WalkDecisionsTypes.error.WalkError.TheVariants as walks
 use Rattle.vt_walk.specs.declared.walk_steps.Walked.{Walked}
-use Rattle.vt_walk.specs.Fits.{WalkSetup, Fits, DoesNotFit as IsTooLarge, room_of}
+use Rattle.vt_walk.specs.Fits.{WalkSetup, PictureFits, DoesNotFit as IsTooLarge, room_beside_pinned}
 use Rattle.vt_walk.specs.Walks.{walk_setup}
 use Rattle.vt_walk.specs.Counts.{HasCounts}
 use Rattle.vt_command_words.specs.Trial.{TrialText}
 use Rattle.vt_pictures.specs.Names.{picture_name}
 use Rattle.vt_command_inputs.specs.Effects.{FolderState, SinkEffect, CallEffect, IsWithoutEffect}
-use Rattle.vt_command_inputs.specs.Inputs.{Content}
+use Rattle.vt_command_inputs.specs.Inputs.{InputContent}
 use Rattle.vt_command_inputs.specs.CommandSpecs.{CommandSpec, Conflict, FlawedBeside, ManyTexels, FewFrames, LargePicture}
 use Rattle.vt_store_commands.specs.commands.Gen.{made_rows}
 use Rattle.vt_walk_commands.specs.declared.commands.trial.Tried.{Tried}
@@ -80,22 +80,22 @@ trial_line number walked differ =
 -- this is the first picture of a settled walk that does not fit
 pub record IsFirstUnfit (w : WalkSetup) (picture wanted room : ℕ) : Type 0 where
   pub of_path : picture < w.pictures
-  pub room_is : room ≡ room_of w
+  pub room_is : room ≡ room_beside_pinned w
   pub unfit : IsTooLarge w picture wanted
-  pub earlier : (i : ℕ) → i < picture → Fits w i
+  pub earlier : (i : ℕ) → i < picture → PictureFits w i
 
 -- this is the first picture of the path of a number that does not fit
-pub record IsUnfit (number picture wanted room : ℕ) : Type 0 where
+pub record IsUnfitPicture (number picture wanted room : ℕ) : Type 0 where
   pub path : PathView
   pub is : IsPathText (trial_path number) path
   pub first : IsFirstUnfit (trial_setup path) picture wanted room
 
 -- this stands in the way of a trial
-abbrev pub ConflictsInTrial : TrialText → List Content → Conflict → Type 0
+abbrev pub ConflictsInTrial : TrialText → List InputContent → Conflict → Type 0
 ConflictsInTrial words contents (FlawedBeside name flaw) = ⊥
 ConflictsInTrial words contents ManyTexels = ⊥
 ConflictsInTrial words contents (FewFrames frames needed) = ⊥
-ConflictsInTrial words contents (LargePicture picture wanted room) = IsUnfit words.number picture wanted room
+ConflictsInTrial words contents (LargePicture picture wanted room) = IsUnfitPicture words.number picture wanted room
 
 -- the answer of the walk of a trial: its folder and its sink have no failing calls
 abbrev pub answer_of_trial : Result Walked WalkError → Result Walked Refusal
@@ -134,14 +134,14 @@ TriesOut number (Ok tried) = IsTrial number tried.walked × (tried.differ ≡ 0)
 TriesOut number (Err refusal) = (refusal ≡ NoMemory) ⊎ IsTrialRefusal number refusal
 
 -- the folder is as before, and the output gained the line, in which no byte differs
-pub record HasTried (words : TrialText) (contents : List Content) (c : CallEffect) : Type 0 where
+pub record HasTried (words : TrialText) (contents : List InputContent) (c : CallEffect) : Type 0 where
   pub walked : Walked
   pub is : IsTrial words.number walked
   pub files : c.folder.after.files ≡ c.folder.before.files
   pub held : c.out.after.held ≡ option_map (gained (trial_line words.number walked 0)) c.out.before.held
 
 -- the folder is as before, and the output gained a prefix of the line
-pub record HasTriedInPart (words : TrialText) (contents : List Content) (c : CallEffect) : Type 0 where
+pub record HasTriedInPart (words : TrialText) (contents : List InputContent) (c : CallEffect) : Type 0 where
   pub walked : Walked
   pub is : IsTrial words.number walked
   pub files : c.folder.after.files ≡ c.folder.before.files

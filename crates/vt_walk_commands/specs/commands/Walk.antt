@@ -12,7 +12,7 @@ use Rattle.vt_walk.specs.WalkDecisionsTypes.settings.Settings.{Settings}
 use Rattle.vt_walk.specs.WalkDecisionsTypes.mode.Mode.TheVariants.{Settled}
 use Rattle.vt_walk.specs.WalkDecisionsTypes.error.WalkError.{WalkError}
 use Rattle.vt_walk.specs.WalkDecisionsTypes.error.WalkError.TheVariants as walks
-use Rattle.vt_walk.specs.Fits.{WalkSetup, Fits, DoesNotFit as IsTooLarge, room_of}
+use Rattle.vt_walk.specs.Fits.{WalkSetup, PictureFits, DoesNotFit as IsTooLarge, room_beside_pinned}
 use Rattle.vt_walk.specs.Walks.{WalkGiven, WalkNames, walk_setup, given_by, mode_of}
 use Rattle.vt_walk.specs.Folders.{IsApart}
 use Rattle.vt_walk.specs.States.{WalkState}
@@ -22,7 +22,7 @@ use Rattle.vt_walk.specs.Causes.{HasUnfit, HasLost, reads_lost}
 use Rattle.vt_walk.specs.Closing.{AreOtherNamesAsBefore}
 use Rattle.vt_command_words.specs.Walk.{WalkText}
 use Rattle.vt_walk_commands.specs.Machines.{MachineKind}
-use Rattle.vt_command_inputs.specs.Inputs.{Input, Content, PathInput, StoreInput, PathContent, StoreContent, header_places}
+use Rattle.vt_command_inputs.specs.Inputs.{Input, InputContent, PathInput, StoreInput, PathContent, StoreContent, header_places}
 use Rattle.vt_command_inputs.specs.Causes.{AreHeld, IsAskedOrNot, AsksSome}
 use Rattle.vt_command_inputs.specs.CommandSpecs.{CommandSpec, Conflict, FlawedBeside, ManyTexels, FewFrames, LargePicture}
 use Rattle.vt_command_inputs.specs.declared.refusal.Refusal.{Refusal}
@@ -35,7 +35,7 @@ pub record WalkOf : Type 0 where
   pub depth : ℕ
 
 -- the inputs hold these
-abbrev pub contents_of : WalkOf → List Content
+abbrev pub contents_of : WalkOf → List InputContent
 contents_of of = PathContent of.path ∷ StoreContent of.shape of.depth ∷ []
 
 -- the numbers that the words give
@@ -78,7 +78,7 @@ walk_last words c = record {
 }
 
 -- the journal's name is no picture's; the path was asked, and then the walk was made whole: what it leaves lies between the opening of its store and the end
-pub record HasWalked (m : MachineKind) (words : WalkText) (contents : List Content) (c : CallEffect) : Type 0 where
+pub record HasWalked (m : MachineKind) (words : WalkText) (contents : List InputContent) (c : CallEffect) : Type 0 where
   pub of : WalkOf
   pub are : contents ≡ contents_of of
   pub read : Option Asked
@@ -87,7 +87,7 @@ pub record HasWalked (m : MachineKind) (words : WalkText) (contents : List Conte
   pub finished : Finished m.drawn (walk_given m words of c.folder.before.files) (walk_first words read c) (walk_last words c)
 
 -- the journal's name is no picture's; the path was asked, and then the walk was left
-pub record HasLeft (m : MachineKind) (words : WalkText) (contents : List Content) (c : CallEffect) : Type 0 where
+pub record HasLeft (m : MachineKind) (words : WalkText) (contents : List InputContent) (c : CallEffect) : Type 0 where
   pub of : WalkOf
   pub are : contents ≡ contents_of of
   pub read : Option Asked
@@ -96,7 +96,7 @@ pub record HasLeft (m : MachineKind) (words : WalkText) (contents : List Content
   pub left : Left m.drawn (walk_given m words of c.folder.before.files) (walk_first words read c) (walk_last words c)
 
 -- the journal's name is no picture's; a settled walk was left exactly after the first pass of a picture that does not fit, the first such
-pub record HasLeftAtUnfit (m : MachineKind) (words : WalkText) (contents : List Content) (picture : ℕ) (c : CallEffect) : Type 0 where
+pub record HasLeftAtUnfit (m : MachineKind) (words : WalkText) (contents : List InputContent) (picture : ℕ) (c : CallEffect) : Type 0 where
   pub of : WalkOf
   pub are : contents ≡ contents_of of
   pub read : Option Asked
@@ -131,9 +131,9 @@ pub record HasLargePicture (m : MachineKind) (words : WalkText) (of : WalkOf) (p
   pub enough : walk_pinned words of ≤ words.frames
   pub settled : mode_of words.settled ≡ Settled
   pub of_path : picture < length of.path.cameras
-  pub room_is : room ≡ room_of (setup_for m words of)
+  pub room_is : room ≡ room_beside_pinned (setup_for m words of)
   pub unfit : IsTooLarge (setup_for m words of) picture wanted
-  pub earlier : (i : ℕ) → i < picture → Fits (setup_for m words of) i
+  pub earlier : (i : ℕ) → i < picture → PictureFits (setup_for m words of) i
 
 -- this stands in the way of a walk
 abbrev pub StandsInWay : MachineKind → WalkText → WalkOf → Conflict → Type 0
@@ -143,7 +143,7 @@ StandsInWay m words of (FewFrames frames needed) = HasFewFrames words of frames 
 StandsInWay m words of (LargePicture picture wanted room) = HasLargePicture m words of picture wanted room
 
 -- this stands in the way of a walk over what the inputs hold
-pub record ConflictsInWalk (m : MachineKind) (words : WalkText) (contents : List Content) (conflict : Conflict) : Type 0 where
+pub record ConflictsInWalk (m : MachineKind) (words : WalkText) (contents : List InputContent) (conflict : Conflict) : Type 0 where
   pub of : WalkOf
   pub are : contents ≡ contents_of of
   pub stands : StandsInWay m words of conflict
@@ -158,7 +158,7 @@ pub record AsksOfWalk (m : MachineKind) (words : WalkText) (c : CallEffect) : Ty
   pub read : Option Asked
   pub path : IsAskedOrNot c.folder.before.files (PathInput words.path) c.folder.before.asked read
   pub others : AreOtherNamesAsBefore words.store read c.folder.after.asked
-  pub contents : List Content
+  pub contents : List InputContent
   pub held : IsSome c.folder.before.files → AreHeld c.folder.before.files (walk_inputs words) contents
   pub stands : HasWalked m words contents c ⊎ HasLeft m words contents c
 
@@ -213,6 +213,6 @@ refusal_of_walk walks.Failed = Fault
 refusal_of_walk walks.NoMemory = NoMemory
 
 -- the answer of a walk
-abbrev pub IsAnswer : Result (Unit {0}) WalkError → Result (Unit {0}) Refusal → Type 0
-IsAnswer (Ok u) result = result ≡ Ok u
-IsAnswer (Err error) result = result ≡ Err (refusal_of_walk error)
+abbrev pub IsWalkAnswer : Result (Unit {0}) WalkError → Result (Unit {0}) Refusal → Type 0
+IsWalkAnswer (Ok u) result = result ≡ Ok u
+IsWalkAnswer (Err error) result = result ≡ Err (refusal_of_walk error)

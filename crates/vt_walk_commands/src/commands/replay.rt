@@ -5,11 +5,11 @@ ghost use Rattle.vt_outside.specs.Counts.{Rose, added};
 ghost use Rattle.vt_command_inputs.specs.Effects.{call_effect, folder_effect};
 ghost use Rattle.vt_command_words.specs.Replay.{shown_replay};
 ghost use Rattle.vt_bilinear.specs.Flaws.{IsFirstRefused};
-ghost use Rattle.vt_bilinear.specs.Outcomes.{Leaves, IsClosed};
+ghost use Rattle.vt_bilinear.specs.Outcomes.{LeavesReplay, IsStoreClosed};
 ghost use Rattle.vt_command_inputs.specs.Inputs.{JournalInput, TextContent};
-ghost use Rattle.vt_command_inputs.specs.Reads.{file_state, Took};
+ghost use Rattle.vt_command_inputs.specs.Reads.{file_state, TookInput};
 ghost use Rattle.vt_command_inputs.specs.CommandSpecs.{EndsBy};
-ghost use Rattle.vt_walk_commands.specs.commands.Replay.{under_by, replay_spec, RefusedBeside, IsAnswer, flaw_of_replay};
+ghost use Rattle.vt_walk_commands.specs.commands.Replay.{under_by, replay_spec, RefusedBeside, IsReplayAnswer, flaw_of_replay};
 
 use std::alloc::Global;
 use std::thread::Threads;
@@ -59,7 +59,7 @@ fn read_beside<'a, D: Folder>(
     name: &'a str,
 ) -> Result<(Store<D::File>, Vec<u8>), Refusal<'a>>
     ensures same { IfOk result (λ read. read.0 ≡ store) }
-    ensures took { IfOk result (λ read. Took (JournalInput name.now) (TextContent read.1.items)
+    ensures took { IfOk result (λ read. TookInput (JournalInput name.now) (TextContent read.1.items)
         (folder_effect D.Folder folder.old folder.new)) }
     ensures refused { IfErr result (λ refusal. RefusedBeside name.now refusal (file_state D.File.File store.file)
         (folder_effect D.Folder folder.old folder.new)) }
@@ -84,13 +84,13 @@ fn play<Rt: Threads + Sync, D: Folder>(
     journal: &[u8],
     prefix: &str,
 ) -> Result<u32, ReplayError>
-    ensures leaves { Leaves (under_by filter) store.shape store.depth (D.File.bytes store.file) path.now journal.now
+    ensures leaves { LeavesReplay (under_by filter) store.shape store.depth (D.File.bytes store.file) path.now journal.now
         prefix.now (D.files folder.old) (D.files folder.new) result }
     ensures refused { (line : ℕ) → IsFirstRefused store.shape path.now.height (length path.now.cameras) journal.now line
         → (result ≡ Err (ReplayError.BadJournal line)) ⊎ (result ≡ Err ReplayError.NoMemory) }
     ensures failed { result ≡ Err ReplayError.Failed
         → Rose (added (D.faults folder.old) (D.File.faults store.file)) (D.faults folder.new) }
-    ensures closed { IsClosed store.shape store.depth (D.File.name store.file) (D.File.asked store.file)
+    ensures closed { IsStoreClosed store.shape store.depth (D.File.name store.file) (D.File.asked store.file)
         (D.asked folder.old) (D.asked folder.new) }
 {
     match filter {
@@ -103,7 +103,7 @@ fn play<Rt: Threads + Sync, D: Folder>(
 
 // The answer of a replay, with the journal's name beside its flaw.
 fn answer_of(name: &str, played: Result<u32, ReplayError>) -> Result<u32, Refusal<'_>>
-    ensures { IsAnswer name.now played result }
+    ensures { IsReplayAnswer name.now played result }
 {
     match played {
         Ok(pictures) => Ok(pictures),

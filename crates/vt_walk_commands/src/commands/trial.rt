@@ -3,31 +3,16 @@
 ghost use Rattle.std.specs.Prelude.{◌≡◌, ◌<◌, ◌≤◌, [], length, is_some, option_map, IfOk, OnSome};
 ghost use Rattle.vt_outside.specs.Counts.{added};
 ghost use Rattle.vt_outside.specs.Files.{bytes_at};
-ghost use Rattle.vt_outside.specs.MemoryFolder.{files_of};
+ghost use Rattle.vt_outside.specs.MemoryFolder.{memory_files};
 ghost use Rattle.vt_command_words.specs.Numbers.{most_number};
 ghost use Rattle.vt_pictures.specs.Names.{four_digit_numbers};
 ghost use Rattle.vt_command_words.specs.Trial.{IsLawfulTrial, shown_trial};
 ghost use Rattle.vt_camera.specs.PathText.{IsPathText};
 ghost use Rattle.vt_pages.specs.Shape.{shape_of};
 ghost use Rattle.vt_command_inputs.specs.Effects.{FolderState, sink_effect};
-ghost use Rattle.vt_bilinear.specs.Expectations.{Puts};
+ghost use Rattle.vt_bilinear.specs.Expectations.{PutsText};
 ghost use Rattle.vt_command_inputs.specs.CommandSpecs.{EndsBy};
-ghost use Rattle.vt_walk_commands.specs.commands.Trial.{
-  trial_shape,
-  trial_texture,
-  trial_path,
-  trial_line,
-  trial_spec,
-  answer_of_trial,
-  beside,
-  TriesOut,
-  WalksOver,
-  Compares,
-  IsOfTrial,
-  differing,
-  differing_in,
-  differing_together,
-};
+ghost use Rattle.vt_walk_commands.specs.commands.Trial.{trial_shape, trial_texture, trial_path, trial_line, trial_spec, answer_of_trial, beside, TriesOut, WalksOver, Compares, IsOfTrial, differing, differing_in, differing_together};
 
 use std::alloc::Global;
 use std::sync::Wait;
@@ -86,7 +71,7 @@ pub struct Tried {
 
 // Puts the line of a trial.
 fn put_trial_line<O: Sink>(out: &mut O, number: u32, tried: &Tried) -> Result<(), OutsideError>
-    ensures { Puts (trial_line number tried.now.walked tried.now.differ) (sink_effect O.Sink out.old out.new) result }
+    ensures { PutsText (trial_line number tried.now.walked tried.now.differ) (sink_effect O.Sink out.old out.new) result }
 {
     let line = line_of_trial(number, tried);
     out.put(line.bytes())
@@ -260,7 +245,7 @@ fn make_store<D: Folder>(
     ensures shape { IfOk result (λ store. store.shape ≡ trial_shape) }
     ensures depth { IfOk result (λ store. store.depth ≡ 1) }
     ensures bytes { IfOk result (λ store. D.File.bytes store.file ≡ bytes_at (D.files folder.new) name.now) }
-    ensures tells { IfOk result (λ store. is_some (D.File.bytes store.file) ≡ is_some (D.files folder.new)) }
+    ensures known_too { IfOk result (λ store. is_some (D.File.bytes store.file) ≡ is_some (D.files folder.new)) }
     ensures asked { IfOk result (λ store. D.File.asked store.file ≡ option_map (λ _. []) (D.asked folder.new)) }
     ensures named { IfOk result (λ store. OnSome (D.asked folder.new) (D.File.name store.file ≡ name.now)) }
 {
@@ -307,7 +292,7 @@ fn count_differing<Rt: Threads + Sync>(
     path: &Path,
 ) -> Result<u64, OutsideError>
     requires { chain.now.base.depth ≡ 1 }
-    ensures { IfOk result (λ n. n ≡ added 0 (differing_together (files_of folder.now) chain.now path.now
+    ensures { IfOk result (λ n. n ≡ added 0 (differing_together (memory_files folder.now) chain.now path.now
         (length path.now.cameras))) }
 {
     let mut count: u64 = 0;
@@ -330,7 +315,7 @@ fn picture_differing<Rt: Threads + Sync>(
     requires depth { chain.now.base.depth ≡ 1 }
     requires picture { picture < length path.now.cameras }
     requires few { picture < four_digit_numbers }
-    ensures { IfOk result (λ n. n ≡ differing_in (files_of folder.now) chain.now path.now picture) }
+    ensures { IfOk result (λ n. n ≡ differing_in (memory_files folder.now) chain.now path.now picture) }
 {
     let samples = draw_plain(rt, alloc, chain, path, picture)?;
     let plain = encode(alloc, path.width(), path.height(), &samples)?;

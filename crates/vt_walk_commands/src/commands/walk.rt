@@ -6,7 +6,7 @@ ghost use Rattle.vt_command_inputs.specs.Effects.{call_effect};
 ghost use Rattle.vt_command_words.specs.Walk.{shown_walk, IsLawfulWalk};
 ghost use Rattle.vt_walk_commands.specs.Machines.{kind_of};
 ghost use Rattle.vt_command_inputs.specs.CommandSpecs.{EndsBy};
-ghost use Rattle.vt_walk_commands.specs.commands.Walk.{walk_spec, IsAnswer, refusal_of_walk};
+ghost use Rattle.vt_walk_commands.specs.commands.Walk.{walk_spec, IsWalkAnswer, refusal_of_walk};
 
 use std::alloc::Global;
 use std::sync::Wait;
@@ -80,7 +80,7 @@ fn has_many_texels(geometry: &Geometry, frames: u32) -> bool
 
 // The answer of a walk.
 fn answer_of<'a>(walked: Result<(), WalkError>) -> Result<(), Refusal<'a>>
-    ensures { IsAnswer walked result }
+    ensures { IsWalkAnswer walked result }
 {
     match walked {
         Ok(()) => Ok(()),

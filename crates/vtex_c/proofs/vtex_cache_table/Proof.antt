@@ -2,7 +2,7 @@
 use Rattle.vtex_c.proofs.Steps.{ℕ, List, [], ◌∷◌, refl, w32, MutBor, proved, full_share, id⊢, Lft, GName, ftrue, flft, flent, named, Val, vptr, fact, tables, Body, ‵, raw, ◌⊛◌, some, later, prop, ◌$◌, ◌∵◌, !, qed, done, move, keep, drop, use1, use2, use3, split, join, fsplit, fjoin, frame, show, pick, await, regoal, suffices, group, lft_new, lft_end, enter, of_opd, addr, from, fld, hop, stop, no_more, and_then, returns, agg, sub, whole, look_in_at, get_in, alloc_all, pass_all, free_all, look_at, get, through, sets, lands_as, u32, yes, Is, shows, lends_ref, ref_back, mem, uint_Lawful, uint_vals, uint_Tells, Ptr, RawPtr, block_ptr, lies_at, in_a_block, rawptr_vals, rawptr_Tells, MutRef, mut_slice_vals, mut_slice_Tells, owns, types_at, sep, plain, nothing, heard, peeks, calls_at, Lasts, lasts, triple_of, Stays, walk_of, says, stay_dropped, Goes-dropped, gave_slice, Goes-gave_slice, ends_at, framed}
 use types.Logic.{sem}
 use prog.Wp.{WpFn}
-use Rattle.vtex_c.specs.Caches.{IsTabled}
+use Rattle.vtex_c.specs.Caches.{IsLevelListed}
 use Rattle.vtex_c.specs.contracts.cache.Cache.{the_row as R}
 use Rattle.vtex_c.specs.contracts.vtex_cache_table as f
 use Rattle.vtex_c.proofs.vtex_cache_table.Statement.{statement}
@@ -43,7 +43,7 @@ vtex_cache_table_spec 𝓤 𝓛 𝓜 𝓡 wired =
     calls_at ! (framed 𝓤 𝓛.H 𝓜 (tables 𝓤 𝓛.H 𝓜 𝓡 𝓡.env)) G (met 𝓤 𝓛 𝓜 𝓡 (code.calls-vtex_c::cache::table 𝓡.env wired)) z
     (and_then ! (get ! refl) (and_then ! (get ! refl) (and_then ! (get ! refl) (no_more !)))) (λ v.
     use1 𝓛 (later (some (λ (u : ℕ). ((‵ (flft κ full_share) ⊛ toks) ⊛ ‵ (u32.own_val u (v ∷ []))) ⊛
-    some (λ (ws : Lasts g.ended z.0.0 z.0.3). ‵ (lasts g.ended z.0.0 z.0.3 ws) ⊛ raw (fact 𝓤 (IsTabled x a.1.0 a.1.1.0.now u ws.1.1.0 ws.0)))))) (id⊢ 𝓤 _) $
+    some (λ (ws : Lasts g.ended z.0.0 z.0.3). ‵ (lasts g.ended z.0.0 z.0.3 ws) ⊛ raw (fact 𝓤 (IsLevelListed x a.1.0 a.1.1.0.now u ws.1.1.0 ws.0)))))) (id⊢ 𝓤 _) $
     await ! tt $ pick ! (λ u. split ! $ split ! $ split ! $ lft_end ! tt $
     -- [over; the tokens; the result; its last values; the lender's part]
     move ! (2 ∷ []) $ peeks ! u32 (Is u32) (shows 𝓛 u32) u (v ∷ []) (λ is. lands_as ! refl refl ((uint_Lawful 𝓛 w32).typed u _ is).0 $
@@ -57,4 +57,4 @@ vtex_cache_table_spec 𝓤 𝓛 𝓜 𝓡 wired =
     -- [what says the slice's last value; its length; its borrow; nothing; the number's; the cache; its borrow; the result; the tokens]
     move ! (0 ∷ 2 ∷ []) $ fjoin ! $ move ! (0 ∷ 2 ∷ []) $ fjoin ! $ move ! (2 ∷ 0 ∷ []) $ fjoin ! $ nothing ! $ fjoin ! $
     keep ! (5 ∷ 0 ∷ 4 ∷ 2 ∷ []) $ group ! 3 $ frame ! $
-    show ! (λ d. sep 𝓤 (sem 𝓛 (lies_at R full_share (block_ptr b o) d)) (fact 𝓤 (IsTabled x a.1.0 a.1.1.0.now u ws.1.1.0 d))) ws.0 $ says ! told $ done !))))))))))
+    show ! (λ d. sep 𝓤 (sem 𝓛 (lies_at R full_share (block_ptr b o) d)) (fact 𝓤 (IsLevelListed x a.1.0 a.1.1.0.now u ws.1.1.0 d))) ws.0 $ says ! told $ done !))))))))))

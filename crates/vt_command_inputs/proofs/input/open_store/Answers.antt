@@ -1,7 +1,7 @@
 use Rattle.std.proofs.Common.{Err, refl}
 use Rattle.std.proofs.lemmas.Result.{err_from_is_err_and}
 use Rattle.vt_outside.specs.Effects.{folder_state, folder_effect}
-use Rattle.vt_command_inputs.specs.Inputs.{Content, StoreInput}
+use Rattle.vt_command_inputs.specs.Inputs.{InputContent, StoreInput}
 use Rattle.vt_command_inputs.specs.Reads.{visit}
 use Rattle.vt_command_inputs.proofs.Opening.{store_opened}
 use Rattle.vt_command_inputs.proofs.Reading.{closed}
@@ -19,7 +19,7 @@ returns-in-Ok-clause-opens g c =
 
 pub returns-in-Err-clause-refused : goal.returns-in-Err-clause-refused
 returns-in-Err-clause-refused g c =
-    closed (StoreInput c.args.name.now) (λ (x : Content). x) (folder_state g.D.Folder c.args.folder.now) (folder_state g.D.Folder c.open_input.new.folder)
+    closed (StoreInput c.args.name.now) (λ (x : InputContent). x) (folder_state g.D.Folder c.args.folder.now) (folder_state g.D.Folder c.open_input.new.folder)
     (folder_state g.D.Folder c.close.new.self) (visit g.D.File.File c.in_ok-file.file c.in-Err.file) (Err c.in-Err.refusal)
     c.in_ok-file.ensures.opened c.in-Err.ensures.tried c.in-Err.ensures.caused
     (record { files = c.close.ensures.files; asked = c.close.ensures.asked; kept = c.close.ensures.kept; faults = c.close.ensures.faults })

@@ -9,11 +9,11 @@ use Rattle.vt_command_inputs.proofs.input.reader_in.Goals as goal
 pub returns-in-Ok-look_over-clause-seen : goal.returns-in-Ok-look_over-clause-seen
 returns-in-Ok-look_over-clause-seen g c =
     let e = c.in-Ok.ensures in
-    let told = g.F.File.bytes c.args.file in
+    let known = g.F.File.bytes c.args.file in
     let before = g.F.File.asked c.args.file in
     let after = g.F.File.asked c.look_over.new.reader.file in
-    subst (λ (h : Header). SeesTexture told h (Ok tt) before after) (sym c.in-Ok-look_over.ensures.header)
-    (seen told c.in-Ok.reader.header (Ok tt) before (g.F.File.asked c.in-Ok.reader.file) after e.read e.raster c.in-Ok-look_over.ensures.seen)
+    subst (λ (h : Header). SeesTexture known h (Ok tt) before after) (sym c.in-Ok-look_over.ensures.header)
+    (seen known c.in-Ok.reader.header (Ok tt) before (g.F.File.asked c.in-Ok.reader.file) after e.read e.raster c.in-Ok-look_over.ensures.seen)
 
 pub returns-in-Ok-look_over-clause-sides : goal.returns-in-Ok-look_over-clause-sides
 returns-in-Ok-look_over-clause-sides g c =

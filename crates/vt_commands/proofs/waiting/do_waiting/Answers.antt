@@ -1,7 +1,7 @@
 use Rattle.std.proofs.Common.{Err, ap, refl}
 use Rattle.std.proofs.lemmas.Result.{err_from_is_err_and}
 use Rattle.vt_command_words.specs.Arguments.{texts}
-use Rattle.vt_commands.specs.Words.{shown}
+use Rattle.vt_commands.specs.Words.{shown_words}
 use Rattle.vt_command_inputs.specs.Effects.{call_effect}
 use Rattle.vt_walk_commands.specs.Machines.{machines_of, kind_of}
 use Rattle.vt_commands.proofs.Clauses.{runs_unread, runs_command}
@@ -15,10 +15,10 @@ returns-in_err-command g c =
     c.in_err-command.field-0.0 (record { folder = refl; out = refl }) (λ is. c.in_err-command.ensures.usage (ap Err is)))
 
 pub perform_waiting-requires-clause-waits : goal.perform_waiting-requires-clause-waits
-perform_waiting-requires-clause-waits g c lives outlive = is_waiting (texts c.args.words.now) c.requires (shown c.in_ok-command.command) c.in_ok-command.ensures.read
+perform_waiting-requires-clause-waits g c lives outlive = is_waiting (texts c.args.words.now) c.requires (shown_words c.in_ok-command.command) c.in_ok-command.ensures.read
 
 pub returns : goal.returns
 returns g c =
     runs_command (machines_of (kind_of g.M.PassMachine) (kind_of g.Swap.PassMachine) (kind_of g.Steal.PassMachine) (kind_of g.Blend.PassMachine)) _ (texts c.args.words.now)
     (call_effect g.D.Folder g.O.Sink c.args.folder.now c.perform_waiting.new.folder c.args.out.now c.perform_waiting.new.out)
-    c.perform_waiting.result (shown c.in_ok-command.command) c.in_ok-command.ensures.read c.perform_waiting.ensures
+    c.perform_waiting.result (shown_words c.in_ok-command.command) c.in_ok-command.ensures.read c.perform_waiting.ensures

@@ -4,7 +4,7 @@ use Rattle.std.specs.Prelude.{slice_index}
 use Rattle.vt_pages.specs.Shape.{Shape}
 use Rattle.vt_pages.specs.Pages.{levels_of, pages_of, IsWithinLimits}
 use Rattle.vt_camera.specs.declared.surfaces.Surface.{Surface}
-use Rattle.vt_draw.specs.Lookups.{IsFinest, covering_page}
+use Rattle.vt_draw.specs.Lookups.{IsFinestFound, covering_page}
 use Rattle.vt_pages.specs.Depths.{texel_bytes, texel_length}
 use Rattle.vt_draw.specs.Shots.{wanted_page, pixels_wanting, IsDrawn}
 use Rattle.vt_draw.proofs.Counts.{run-none, run_fits, pixels-none, pixels-next}
@@ -50,7 +50,7 @@ loop-x-preserved g c =
     let version = g.K.Lookup.version c.args.lookup.now in
     let shape : g.K.Lookup.shape last ≡ s = c.word_at_place-word.ensures.shape ∙ c.found_for-found.ensures.shape ∙ c.loop-x.invariant.shape in
     let number : g.K.Lookup.version last ≡ version = c.word_at_place-word.ensures.version ∙ c.found_for-found.ensures.version ∙ c.loop-x.invariant.version in
-    let finest : IsFinest (g.K.Lookup.shape last) (g.K.Lookup.version last) (g.K.Lookup.says last) page found =
+    let finest : IsFinestFound (g.K.Lookup.shape last) (g.K.Lookup.version last) (g.K.Lookup.says last) page found =
     finest_moved (g.K.Lookup.shape middle) (g.K.Lookup.shape last) (g.K.Lookup.version middle)
     (g.K.Lookup.version last) (g.K.Lookup.says middle) (g.K.Lookup.says last) page found
     c.word_at_place-word.ensures.shape c.word_at_place-word.ensures.version c.word_at_place-word.ensures.said c.found_for-found.ensures.finest in
@@ -58,7 +58,7 @@ loop-x-preserved g c =
     let wants : page ≡ wanted_page s row x =
     wanted_is s row x page c.level-level.result here.result.0 here.result.1 c.page_at_place-page.ensures.page
     c.level-level.ensures.value here.ensures.column here.ensures.row in
-    let F : ℕ → Type 0 = λ p. IsFinest s version (g.K.Lookup.says last) p found in
+    let F : ℕ → Type 0 = λ p. IsFinestFound s version (g.K.Lookup.says last) p found in
     let drawn : IsDrawn s g.row.DEPTH version (g.K.Lookup.says last) row x (texel_bytes g.row.DEPTH c.put_word.new.bytes x) = record {
       found = found;
       word = c.word_at_place-word.result;
@@ -138,7 +138,7 @@ word_at_place-word-requires-clause-line g c =
 pub word_at_place-word-requires-clause-finest : goal.word_at_place-word-requires-clause-finest
 word_at_place-word-requires-clause-finest g c =
     let middle = c.found_for-found.new.lookup in
-    subst (λ (p : ℕ). IsFinest (g.K.Lookup.shape middle) (g.K.Lookup.version middle) (g.K.Lookup.says middle) p c.found_for-found.result)
+    subst (λ (p : ℕ). IsFinestFound (g.K.Lookup.shape middle) (g.K.Lookup.version middle) (g.K.Lookup.says middle) p c.found_for-found.result)
     (same_page c.args.geometry.now (g.K.Lookup.shape middle) c.level-level.result c.texel-column-in-loop-x.result.0
     c.texel-column-in-loop-x.result.1 c.page_at_place-page.result c.page_at_place-page.ensures.page
     (◌∙◌ {b = g.K.Lookup.shape c.loop-x.lookup} c.found_for-found.ensures.shape c.loop-x.invariant.shape)) c.found_for-found.ensures.finest

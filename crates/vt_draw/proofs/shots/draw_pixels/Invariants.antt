@@ -1,5 +1,5 @@
 use Rattle.std.proofs.Common.{◌≡◌, ℕ, ◌+◌, ◌<◌, ◌≤◌, length, slice_index}
-use Rattle.vt_draw.specs.Lookups.{Note, IsFinest}
+use Rattle.vt_draw.specs.Lookups.{Note, IsFinestFound}
 use Rattle.vt_pages.specs.Depths.{texel_bytes}
 use Rattle.vt_draw.specs.Shots.{pixels_wanting, run_of, IsDrawn}
 use Rattle.vt_draw.proofs.shots.draw_pixels.Given as goal
@@ -11,7 +11,7 @@ invariant-loop-x g l = record {
   version : g.K.Lookup.version l.lookup ≡ g.K.Lookup.version l.fn.lookup;
   said : (note : Note) → g.K.Lookup.says l.fn.lookup note → g.K.Lookup.says l.lookup note;
   kept : g.K.Lookup.kept l.lookup ≡ g.K.Lookup.kept l.fn.lookup;
-  finest : IsFinest (g.K.Lookup.shape l.lookup) (g.K.Lookup.version l.lookup) (g.K.Lookup.says l.lookup) l.wanted l.found;
+  finest : IsFinestFound (g.K.Lookup.shape l.lookup) (g.K.Lookup.version l.lookup) (g.K.Lookup.says l.lookup) l.wanted l.found;
   drawn : (i : ℕ) → i < l.x → IsDrawn l.geometry g.row.DEPTH (g.K.Lookup.version l.fn.lookup) (g.K.Lookup.says l.lookup) l.row i
       (texel_bytes g.row.DEPTH l.out i);
   inside : l.wanted < length l.fn.counts;

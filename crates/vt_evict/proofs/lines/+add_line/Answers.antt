@@ -3,7 +3,7 @@ use Rattle.indexmap.proofs.MapLemmas.{OnOk-map}
 use Rattle.vt_plan.specs.Pages.{parent_of}
 use Rattle.vt_plan.proofs.Parents.{parent_facts, level_below}
 use Rattle.vt_plan.specs.PageLists.{is_in}
-use Rattle.vt_evict.specs.Kept.{IsClosed}
+use Rattle.vt_evict.specs.Kept.{HasParents}
 use Rattle.vt_evict.proofs.LineLemmas.{over_none, over_root, over_more, still_new, parent_in, closed_push, with_new}
 use Rattle.vt_evict.proofs.lines.+add_line.Goals as goal
 
@@ -27,7 +27,7 @@ returns-in_ok-add_line-in-Some-clause-closed t c =
     ∙ still_new c.args.geometry.now c.args.pages.now.keys c.args.page c.in-Some.parent c.requires.limits c.requires.inside parent new in
     let there : is_in c.add_line.new.pages.keys c.in-Some.parent ≡ true = ap (λ (l : List ℕ). is_in l c.in-Some.parent) c.in_ok-add_line-in-Some.ensures.added
     ∙ parent_in c.args.geometry.now c.args.pages.now.keys c.in-Some.parent c.requires.limits h.inside in
-    OnOk-map c.add_page.result _ _ (λ e. subst (IsClosed c.args.geometry.now) (sym (e ∙ with_new c.add_line.new.pages.keys c.args.page absent))
+    OnOk-map c.add_page.result _ _ (λ e. subst (HasParents c.args.geometry.now) (sym (e ∙ with_new c.add_line.new.pages.keys c.args.page absent))
     (closed_push c.args.geometry.now c.add_line.new.pages.keys c.args.page c.in_ok-add_line-in-Some.ensures.closed
     (λ q e. let two : Some c.in-Some.parent ≡ Some q = sym parent ∙ e in let same : c.in-Some.parent ≡ q = (cc) in
     subst (λ (r : ℕ). is_in c.add_line.new.pages.keys r ≡ true) same there))) c.add_page.ensures

@@ -4,7 +4,7 @@ use Rattle.vt_journal.specs.declared.passes.PassText.{PassText}
 use Rattle.vt_journal.specs.Passes.{pass_of}
 use Rattle.vt_journal.specs.JournalText.{pass_lines}
 use Rattle.vt_journal.specs.JournalFlaws.{Reading, after_all}
-use Rattle.vt_journal.specs.JournalReading.{IsBetween, IsPassRead, ArePassesRead, head_reading}
+use Rattle.vt_journal.specs.JournalReading.{IsBetweenPasses, IsPassRead, ArePassesRead, head_reading}
 use Rattle.vt_journal.proofs.Stepping.{refused_later}
 use Rattle.vt_journal.proofs.Passing.{passes_more}
 use Rattle.vt_journal.proofs.read.read_passes.Goals as goal
@@ -16,7 +16,7 @@ returns-in_err-read c =
     let lines = flat_map pass_lines (map pass_of c.passes.passes.items) in
     let r : Reading = after_all (head_reading c.args.kept.now.changes) lines in
     let count : c.len-in-passes.result ≡ length c.passes.passes.items = omega (arith, c.len-in-passes.ensures, c.passes.passes.ok.0) in
-    let between = subst (λ n. IsBetween src.geometry.now src.height c.passes.kept.changes n c.passes.picture r) (sym count) so_far.between in
+    let between = subst (λ n. IsBetweenPasses src.geometry.now src.height c.passes.kept.changes n c.passes.picture r) (sym count) so_far.between in
     search (
       rules,
       refused_later src.geometry.now src.height src.text.now (head_reading c.args.kept.now.changes) c.args.cursor.at c.args.cursor.number
@@ -32,10 +32,10 @@ passes-preserved c =
     let pass = c.in_ok-read.read.pass in
     let count : c.len-in-passes.result ≡ length before = omega (arith, c.len-in-passes.ensures, c.passes.passes.ok.0) in
     let added : c.add_pass.new.passes.items ≡ before ++ pass ∷ [] = c.in_ok-add_pass.ensures in
-    let read = λ (r : Reading) (between : IsBetween s src.height c.passes.kept.changes (length before) c.passes.picture r).
+    let read = λ (r : Reading) (between : IsBetweenPasses s src.height c.passes.kept.changes (length before) c.passes.picture r).
     subst (λ n. IsPassRead s src.height src.text.now r c.passes.kept.changes c.read_pass.new.kept.changes n pass c.passes.place.at
     c.passes.place.number c.in_ok-read.read.next.at c.in_ok-read.read.next.number) count
-    (c.in_ok-read.ensures.read r (subst (λ n. IsBetween s src.height c.passes.kept.changes n c.passes.picture r) (sym count) between)) in
+    (c.in_ok-read.ensures.read r (subst (λ n. IsBetweenPasses s src.height c.passes.kept.changes n c.passes.picture r) (sym count) between)) in
     let one = read (after_all (head_reading c.args.kept.now.changes) (flat_map pass_lines (map pass_of before))) so_far.between in
     let longer = ap (λ ps. length {A = PassText} ps) added ∙ length-append before (pass ∷ []) in
     record {

@@ -12,7 +12,7 @@ returns-clause-faulty c = faulty c.args.geometry.now c.args.height c.args.text.n
     (omega (arith, c.read_text.ensures.limits.least_tile)) c.read_text.ensures.read
 
 pub returns-clause-ok : goal.returns-clause-ok
-returns-clause-ok c = MatchResult-weaker c.read_text.result c.read_text.ensures.read (λ _ told. told) (λ _ _. tt)
+returns-clause-ok c = MatchResult-weaker c.read_text.result c.read_text.ensures.read (λ _ spelled. spelled) (λ _ _. tt)
 
 pub returns-clause-refused : goal.returns-clause-refused
 returns-clause-refused c = MatchResult-weaker c.read_text.result c.read_text.ensures.read (λ _ _. tt) (λ _ refused. refused)

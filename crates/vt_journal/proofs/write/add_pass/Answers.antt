@@ -21,7 +21,7 @@ pub returns-clause-whole : goal.returns-clause-whole
 returns-clause-whole c =
     let s = c.args.geometry.now in
     let pass = pass_of c.args.pass.now in
-    let told = c.in_ok-add_events.ensures.whole ∙ ap (λ es. c.add_line.new.text.items ++ lines_text s (event_lines pass.start es)) c.slice.ensures in
+    let spelled = c.in_ok-add_events.ensures.whole ∙ ap (λ es. c.add_line.new.text.items ++ lines_text s (event_lines pass.start es)) c.slice.ensures in
     let drawn = ap (λ rs. c.add_events.new.text.items ++ lines_text s (map Draws rs)) c.slice-2.ensures in
     IfOk-equal c.add_rows.result c.add_rows.new.text.items _ _ c.add_rows.ensures.whole
-    (pass_whole s c.args.text.now.items c.add_line.new.text.items c.add_events.new.text.items _ pass c.in_ok-add_line.ensures.whole told drawn)
+    (pass_whole s c.args.text.now.items c.add_line.new.text.items c.add_events.new.text.items _ pass c.in_ok-add_line.ensures.whole spelled drawn)

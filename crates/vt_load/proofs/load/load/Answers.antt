@@ -1,5 +1,5 @@
 use Rattle.std.proofs.Common.{inr, ap, ◌∙◌, ◌+◌, length, refl, arith}
-use Rattle.vt_queue.specs.Queues.{view_of}
+use Rattle.vt_queue.specs.Queues.{queue_view_of}
 use Rattle.vt_load.proofs.Loading.{begins, more_as, one_taken}
 use Rattle.vt_load.proofs.load.load.Goals as goal
 
@@ -9,9 +9,9 @@ loop-left-init g c = let r = c.requires in record {
   answers = (r.answers, refl);
   shape = refl;
   depth = refl;
-  loads = begins g.F.File c.args.store.now.shape c.args.store.now.depth (view_of c.args.asks.now) (view_of c.args.answers.now) c.args.store.now.file;
+  loads = begins g.F.File c.args.store.now.shape c.args.store.now.depth (queue_view_of c.args.asks.now) (queue_view_of c.args.answers.now) c.args.store.now.file;
   room = (let a = r.spare in let e = c.capacity-left.ensures in omega (arith, a, e));
-  count = ap (λ n. length (view_of c.args.asks.now).took + n) c.capacity-left.ensures;
+  count = ap (λ n. length (queue_view_of c.args.asks.now).took + n) c.capacity-left.ensures;
 }
 
 pub loop-left-preserved : goal.loop-left-preserved

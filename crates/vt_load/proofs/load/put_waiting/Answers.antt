@@ -2,7 +2,7 @@ use Rattle.std.proofs.Common.{◌∙◌, refl, subst}
 use Rattle.vt_queue.specs.declared.items.Loaded.{Loaded}
 use Rattle.vt_queue.specs.declared.views.PassView.{PassView}
 use Rattle.vt_queue.specs.Steps.{Puts}
-use Rattle.vt_queue.specs.Queues.{view_of}
+use Rattle.vt_queue.specs.Queues.{queue_view_of}
 use Rattle.vt_load.proofs.load.put_waiting.Goals as goal
 
 pub loop-init : goal.loop-init
@@ -25,5 +25,5 @@ returns-in-Ok g c =
     let done = c.in-Ok.ensures in
     record {
       of = (done.of.0, done.of.1 ∙ i.splits);
-      puts = subst (λ (z : PassView Loaded × Loaded). Puts z.0 z.1 (view_of c.put.new.pass)) (λ k. (i.view k, i.item k)) done.puts;
+      puts = subst (λ (z : PassView Loaded × Loaded). Puts z.0 z.1 (queue_view_of c.put.new.pass)) (λ k. (i.view k, i.item k)) done.puts;
     }

@@ -1,6 +1,6 @@
 use Rattle.std.proofs.Common.{arith, ◌≡◌, ℕ, ◌+◌, ◌≤◌, ◌++◌, length, reverse, ap, ◌∙◌, subst, [], ◌∷◌, length-append}
 use Rattle.vt_queue.proofs.Gathered.{append_nil}
-use Rattle.vt_queue.specs.Queues.{view_of, capacity_of}
+use Rattle.vt_queue.specs.Queues.{queue_view_of, capacity_of}
 use Rattle.std.specs.List.{range_with_len}
 use Rattle.vt_load.specs.QueuedLoaders.{stores_of, numbers_of}
 use Rattle.vt_load.proofs.Dealing.{split_more, order_more, popped_all, may_load, loaders_of, none_dealt, none_may, none_numbered, numbers_more}
@@ -23,7 +23,7 @@ loop-store-init g c =
       order = ap (λ l. c.args.stores.now.elements ++ reverse (stores_of l)) r.none ∙ append_nil _;
       numbers = none_numbered c.args.loaders.now.elements (length c.args.stores.now.elements) r.none;
       may = none_may g.F.File c.args.queues.now c.args.loaders.now.elements r.none;
-      split = none_dealt (view_of c.args.asks.now) (view_of c.args.answers.now) c.args.loaders.now.elements r.none;
+      split = none_dealt (queue_view_of c.args.asks.now) (queue_view_of c.args.answers.now) c.args.loaders.now.elements r.none;
     }
 
 pub loop-store-preserved : goal.loop-store-preserved
@@ -59,8 +59,8 @@ loop-store-preserved g c =
     }
 
 pub returns-clause-of : goal.returns-clause-of
-returns-clause-of g c = λ s d told all.
-    loaders_of g.F.File s d told c.loop-store.stores.elements c.args.stores.now.elements c.loop-store.loaders.elements c.in_default.ensures.none.0
+returns-clause-of g c = λ s d known all.
+    loaders_of g.F.File s d known c.loop-store.stores.elements c.args.stores.now.elements c.loop-store.loaders.elements c.in_default.ensures.none.0
     c.loop-store.invariant.order all
 
 pub returns-clause-numbers : goal.returns-clause-numbers

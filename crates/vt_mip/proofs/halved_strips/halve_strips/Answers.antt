@@ -2,7 +2,7 @@ use Rattle.std.proofs.Common.{◌≡◌, ℕ, ◌+◌, ◌-◌, ◌*◌, ◌<◌
 use Rattle.std.specs.Prelude.{vec_len}
 use Rattle.std.proofs.lemmas.List.{with_items_is}
 use Rattle.vt_ppm.specs.Files.{IsPiece}
-use Rattle.vt_ppm.proofs.Untold.{OnErr-all}
+use Rattle.vt_ppm.proofs.UnknownContents.{OnErr-all}
 use Rattle.vt_ppm.specs.declared.header.Header.{Header}
 use Rattle.vt_ppm.specs.Format.{depth_of}
 use Rattle.vt_ppm.specs.Image.{ImageView}

@@ -1,5 +1,5 @@
 use Rattle.std.proofs.Common.{◌∙◌, subst, arith}
-use Rattle.vt_ppm.proofs.Untold.{OnErr-all}
+use Rattle.vt_ppm.proofs.UnknownContents.{OnErr-all}
 use Rattle.vt_ppm.specs.declared.header.Header.{Header}
 use Rattle.vt_ppm.specs.Strips.{texture_of}
 use Rattle.vt_ppm.proofs.StripPlaces.{no_strips, strips_front}
@@ -15,6 +15,6 @@ returns-in_err-half-clause-tried g c =
     OnErr-all _ _ (strips_front h strip_height 0 before after (omega arith) (no_strips h strip_height before after c.reserve.ensures.asked))
 
 pub returns-clause-half : goal.returns-clause-half
-returns-clause-half g c = λ b told.
+returns-clause-half g c = λ b known.
     subst (λ (h : Header). IsHalf (texture_of h b) c.finish.result) c.reserve.ensures.header
-    (c.finish.ensures.half (texture_of c.reserve.new.self.header b) (c.in_ok-halve_strips.ensures.halves b (c.reserve.ensures.bytes ∙ told)))
+    (c.finish.ensures.half (texture_of c.reserve.new.self.header b) (c.in_ok-halve_strips.ensures.halves b (c.reserve.ensures.bytes ∙ known)))

@@ -1,7 +1,7 @@
 use Rattle.std.proofs.Common.{◌≡◌, ℕ, ◌+◌, ◌-◌, ◌*◌, ◌<◌, ◌≤◌, length, refl, sym, ◌∙◌, subst, arith, rules}
 use Rattle.std.proofs.Math.Nat.{le_trans}
 use Rattle.std.proofs.lemmas.Result.{on_ok_weaker}
-use Rattle.vt_ppm.proofs.Untold.{OnErr-all}
+use Rattle.vt_ppm.proofs.UnknownContents.{OnErr-all}
 use Rattle.vt_ppm.specs.Sides.{side}
 use Rattle.vt_ppm.specs.declared.header.Header.{Header}
 use Rattle.vt_mip.proofs.StripRows.{first_words, one_row, two_rows}

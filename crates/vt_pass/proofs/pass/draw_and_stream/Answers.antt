@@ -11,8 +11,8 @@ use Rattle.vt_word_workers.proofs.MachineLent.{same_number, all_did}
 use Rattle.vt_word_workers.specs.WordSamplers.{WordSampler}
 use Rattle.vt_word_workers.specs.declared.workers.WordStreamer.{WordStreamer}
 use Rattle.vt_word_workers.specs.SamplerTasks.{MayDraw, HasDrawn}
-use Rattle.vt_word_workers.specs.WordTasks.{HasFed}
-use Rattle.vt_word_workers.proofs.Kits.{may_draw}
+use Rattle.vt_word_workers.specs.WordTasks.{HasStreamedWords}
+use Rattle.vt_word_workers.proofs.WorkerPools.{may_draw}
 use Rattle.vt_pass.proofs.Lending.{lent_back, lent_ran}
 use Rattle.vt_pass.proofs.pass.draw_and_stream.Goals as goal
 
@@ -25,7 +25,7 @@ work_together-requires-clause-samplers g c κs within =
     let job = job_of c.args.shot.now c.args.batch.now.elements in
     let words = c.args.words.now in
     subst (AllReady (MayDraw words job.scene job.picture)) (sym c.slice_mut-2.ensures.value)
-    (may_draw g.F.File job words c.args.queues.now c.args.own.now c.args.kit.now c.detach_workers-loaders.result.1.elements
+    (may_draw g.F.File job words c.args.queues.now c.args.own.now c.args.pool.now c.detach_workers-loaders.result.1.elements
     c.requires.ready c.requires.root c.requires.job c.detach_workers-loaders.ensures.out.moved)
 
 pub finish-requires : goal.finish-requires
@@ -48,8 +48,8 @@ finish-requires g c =
     let did_draw = all_did (λ (x : WordsValue) (j : Job) (v w : WordSampler). HasDrawn g.P.Filter x j.scene j.picture v w) words words _ _ refl
     (ap with c.slice.ensures) e _ us
     c.slice_mut-2.ensures.value (search rules) c.work_together.ensures.samplers in
-    let did_stream = subst (λ (l : List Planned). HasFed words q l b d) c.slice.ensures c.work_together.ensures.streamer in
-    lent_back g.F.File g.P.Filter words q own b d c.args.kit.now c.detach_workers-loaders.new.self job a (refill (length a) a ws) e (refill (length e) e us)
+    let did_stream = subst (λ (l : List Planned). HasStreamedWords words q l b d) c.slice.ensures c.work_together.ensures.streamer in
+    lent_back g.F.File g.P.Filter words q own b d c.args.pool.now c.detach_workers-loaders.new.self job a (refill (length a) a ws) e (refill (length e) e us)
     c.detach_workers-loaders.ensures.out refl c.requires.ready c.requires.job number
     number_f did_load did_draw did_stream
 
@@ -73,11 +73,11 @@ returns-clause-ran g c =
     let did_draw = all_did (λ (x : WordsValue) (j : Job) (v w : WordSampler). HasDrawn g.P.Filter x j.scene j.picture v w) words words _ _ refl
     (ap with c.slice.ensures) e _ us
     c.slice_mut-2.ensures.value (search rules) c.work_together.ensures.samplers in
-    let did_stream = subst (λ (l : List Planned). HasFed words q l b d) c.slice.ensures c.work_together.ensures.streamer in
-    let back = lent_back g.F.File g.P.Filter words q own b d c.args.kit.now c.detach_workers-loaders.new.self job a (refill (length a) a ws) e (refill (length e) e us)
+    let did_stream = subst (λ (l : List Planned). HasStreamedWords words q l b d) c.slice.ensures c.work_together.ensures.streamer in
+    let back = lent_back g.F.File g.P.Filter words q own b d c.args.pool.now c.detach_workers-loaders.new.self job a (refill (length a) a ws) e (refill (length e) e us)
     c.detach_workers-loaders.ensures.out refl c.requires.ready c.requires.job number
     number_f did_load did_draw did_stream in
-    lent_ran g.F.File g.P.Filter words q own b d c.args.kit.now c.detach_workers-loaders.new.self job a (refill (length a) a ws) e (refill (length e) e us)
+    lent_ran g.F.File g.P.Filter words q own b d c.args.pool.now c.detach_workers-loaders.new.self job a (refill (length a) a ws) e (refill (length e) e us)
     c.detach_workers-loaders.ensures.out refl c.requires.ready c.requires.job number
     number_f did_load did_draw did_stream
     c.finish.result c.finish.new.streamer c.finish.new.self (c.finish.ensures.ran back.0 back.1)

@@ -4,7 +4,7 @@ use Rattle.vt_definitions.specs.Depths.{texel_bytes}
 use Rattle.vt_camera.specs.Rows.{row_level}
 use Rattle.vt_draw.proofs.Counts.{run-none}
 use Rattle.vt_blend.specs.Corners.{corners_of}
-use Rattle.vt_plain_bilinear.specs.Served.{pages_about, texels_wanting, IsMemo, AreServed, IsBlended}
+use Rattle.vt_plain_bilinear.specs.Served.{pages_about, texels_wanting, IsMemo, AreCornersServed, IsBlended}
 use Rattle.vt_blend.specs.Counting.{times_among}
 use Rattle.vt_plain_bilinear.specs.BlendPlain.{wanting-none, wanting-more}
 use Rattle.vt_plain_bilinear.proofs.Counts.{run_fits, last_fits}
@@ -39,7 +39,7 @@ loop-x-preserved g c =
     let later = g.K.Lookup.says taken.new.lookup in
     let version : g.K.Lookup.version c.loop-x.lookup ≡ v = c.loop-x.invariant.on.version in
     let M : ℕ → Type 0 = λ n. IsMemo s n later taken.new.memo in
-    let S : ℕ → Type 0 = λ n. AreServed s n later level at.result taken.result.0 in
+    let S : ℕ → Type 0 = λ n. AreCornersServed s n later level at.result taken.result.0 in
     let here : IsBlended s d v later row x (texel_bytes d c.put_word.new.bytes x) =
     blended_here s d v later row x level c.blend_words.result at.result c.weights_of.result taken.result.0
     (texel_bytes d c.put_word.new.bytes x) c.level-level.ensures.value at.ensures.value (subst S version taken.ensures.served)

@@ -4,7 +4,7 @@ use Rattle.vt_feedback.specs.Shape.{Shape}
 use Rattle.vt_feedback.specs.declared.Wanted.{Wanted}
 use Rattle.vt_feedback.specs.Wants.{pages_wanted}
 use Rattle.vt_feedback.specs.Lookups.{next_finer_page}
-use Rattle.vt_plan.specs.Missing.{is_mapped, missing_from}
+use Rattle.vt_plan.specs.Missing.{has_frame, missing_from}
 use Rattle.vt_plan.specs.PageLists.{with_page}
 use Rattle.vt_plan.proofs.PlanLemmas.{missing-none, missing-more}
 use Rattle.vt_plan.proofs.plans.missing_of.Goals as goal
@@ -22,6 +22,6 @@ loop-want-preserved c =
     let p : ℕ = (get_or list i d).page in
     let within : i < length list = omega arith in
     c.in_ok-ask.ensures
-    ∙ ap (λ (l : List ℕ). cond (is_mapped entries p) l (with_page l (next_finer_page s (is_mapped entries) p))) c.loop-want.invariant
+    ∙ ap (λ (l : List ℕ). cond (has_frame entries p) l (with_page l (next_finer_page s (has_frame entries) p))) c.loop-want.invariant
     ∙ sym (missing-more s entries (pages_wanted (take i list)) p)
     ∙ ap (missing_from s entries) (sym (map_more (λ w. w.page) list i d within))

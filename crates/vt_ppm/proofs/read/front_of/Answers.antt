@@ -3,27 +3,27 @@ use Rattle.vt_outside.proofs.Refusing.{none_made, no_value, handed_on, rose_late
 use Rattle.vt_ppm.specs.declared.error.PpmError.TheVariants.{Failed, NoMemory}
 use Rattle.vt_ppm.proofs.AskedPlaces.{asks_front, asks_nothing, front_inside, reads_front}
 use Rattle.vt_ppm.proofs.Refusing.{fault_handed_on, no_fault}
-use Rattle.vt_ppm.proofs.TellingFiles.{front_told}
+use Rattle.vt_ppm.proofs.KnownFiles.{front_known}
 use Rattle.vt_ppm.proofs.read.front_of.Goals as goal
 
 pub returns-in_err-bytes-clause-asked : goal.returns-in_err-bytes-clause-asked
 returns-in_err-bytes-clause-asked g c =
-    asks_front _ _ _ _ c.in_ok-length.length _ (c.reserve.ensures.asked ∙ c.length.ensures.asked) c.in_ok-length.ensures.told c.min.ensures
+    asks_front _ _ _ _ c.in_ok-length.length _ (c.reserve.ensures.asked ∙ c.length.ensures.asked) c.in_ok-length.ensures.known c.min.ensures
     c.bytes_at.result c.bytes_at.ensures.asked
 
 pub returns-clause-front : goal.returns-clause-front
 returns-clause-front g c =
-    front_told _ _ _ c.in_ok-length.length (c.reserve.ensures.bytes ∙ c.length.ensures.bytes) c.in_ok-length.ensures.told c.in_ok-bytes.ensures.piece
+    front_known _ _ _ c.in_ok-length.length (c.reserve.ensures.bytes ∙ c.length.ensures.bytes) c.in_ok-length.ensures.known c.in_ok-bytes.ensures.piece
     (c.in_ok-bytes.ensures.count ∙ c.min.ensures)
 
 pub returns-clause-asked : goal.returns-clause-asked
 returns-clause-asked g c =
-    asks_front _ _ _ _ c.in_ok-length.length _ (c.reserve.ensures.asked ∙ c.length.ensures.asked) c.in_ok-length.ensures.told c.min.ensures
+    asks_front _ _ _ _ c.in_ok-length.length _ (c.reserve.ensures.asked ∙ c.length.ensures.asked) c.in_ok-length.ensures.known c.min.ensures
     c.bytes_at.result c.bytes_at.ensures.asked
 
 pub returns-clause-read : goal.returns-clause-read
 returns-clause-read g c =
-    reads_front _ _ _ _ c.in_ok-length.length _ (c.reserve.ensures.asked ∙ c.length.ensures.asked) c.in_ok-length.ensures.told c.min.ensures
+    reads_front _ _ _ _ c.in_ok-length.length _ (c.reserve.ensures.asked ∙ c.length.ensures.asked) c.in_ok-length.ensures.known c.min.ensures
     c.in_ok-bytes.ensures.asked
 
 pub returns-in_err-length-clause-front : goal.returns-in_err-length-clause-front
@@ -113,7 +113,7 @@ returns-in_err-bytes-clause-refusals g c =
 
 pub returns-in_err-bytes-clause-failed : goal.returns-in_err-bytes-clause-failed
 returns-in_err-bytes-clause-failed g c =
-    let inside = front_inside _ _ c.in_ok-length.length _ (c.reserve.ensures.bytes ∙ c.length.ensures.bytes) c.in_ok-length.ensures.told c.min.ensures in
+    let inside = front_inside _ _ c.in_ok-length.length _ (c.reserve.ensures.bytes ∙ c.length.ensures.bytes) c.in_ok-length.ensures.known c.min.ensures in
     let first : g.F.File.faults c.args.file.now ≤ g.F.File.faults c.reserve.new.self = omega (arith, c.reserve.ensures.faults, c.length.ensures.faults) in
     fault_handed_on {T = Vec ℕ Global} c.from_residual-in_err-bytes.result _ _ c.from_residual-in_err-bytes.ensures.1
     (λ failed. rose_later _ (g.F.File.faults c.reserve.new.self) _ first (c.in_err-bytes.ensures.failed failed inside))

@@ -2,17 +2,17 @@ use Rattle.vt_outside.proofs.Refusing.{no_value, handed_on}
 use Rattle.vt_ppm.specs.declared.read.Front.{Front}
 use Rattle.vt_ppm.proofs.Refusing.{fault_handed_on, flaw_answer_no_fault, front_answer, outside_header_answer, outside_no_raster}
 use Rattle.vt_definitions.specs.Limits.{most_tiled_side}
-use Rattle.vt_ppm.proofs.TellingFiles.{answer_told, header_answer_told}
+use Rattle.vt_ppm.proofs.KnownFiles.{answer_known, header_answer_known}
 use Rattle.vt_ppm.proofs.read.read_header.Goals as goal
 
 pub returns-clause-header : goal.returns-clause-header
 returns-clause-header g c =
-    header_answer_told most_tiled_side _ c.in_ok-front.front.length c.deref.result.now
+    header_answer_known most_tiled_side _ c.in_ok-front.front.length c.deref.result.now
     (rw c.deref.ensures.value c.in_ok-front.ensures.front) c.lawful_header.result c.lawful_header.ensures.header
 
 pub returns-clause-flaw : goal.returns-clause-flaw
 returns-clause-flaw g c =
-    answer_told most_tiled_side _ c.in_ok-front.front.length c.deref.result.now
+    answer_known most_tiled_side _ c.in_ok-front.front.length c.deref.result.now
     (rw c.deref.ensures.value c.in_ok-front.ensures.front) c.lawful_header.result c.lawful_header.ensures.no_raster c.lawful_header.ensures.flaw
 
 pub returns-in_err-front-clause-header : goal.returns-in_err-front-clause-header

@@ -5,19 +5,19 @@ use Rattle.vt_definitions.specs.Limits.{most_read_side}
 use Rattle.vt_ppm.specs.declared.read.Front.{Front}
 use Rattle.vt_ppm.proofs.AskedPlaces.{asks_header_only, asks_raster, raster_inside, reads_raster}
 use Rattle.vt_ppm.proofs.Refusing.{fault_handed_on, flaw_no_fault, outside_answer, header_answer}
-use Rattle.vt_ppm.proofs.TellingFiles.{flaw_told, truncated_told, over_told, image_told}
+use Rattle.vt_ppm.proofs.KnownFiles.{flaw_known, truncated_known, over_known, image_known}
 use Rattle.vt_ppm.proofs.read.read_image.Goals as goal
 
 pub returns-in_err-header-clause-flaw : goal.returns-in_err-header-clause-flaw
 returns-in_err-header-clause-flaw g c =
     let p = err_from_is_err_and c.from_residual-in_err-header.result c.from_residual-in_err-header.ensures.1 in
-    rw (p.1, p.2) (λ _. flaw_told most_read_side _ c.in_ok-front.front.length c.deref.result.now (rw c.deref.ensures.value c.in_ok-front.ensures.front)
+    rw (p.1, p.2) (λ _. flaw_known most_read_side _ c.in_ok-front.front.length c.deref.result.now (rw c.deref.ensures.value c.in_ok-front.ensures.front)
     c.in_err-header.field-0.0 c.in_err-header.ensures.no_raster c.in_err-header.ensures.flaw)
 
 pub returns-then-have-want-clause-flaw : goal.returns-then-have-want-clause-flaw
 returns-then-have-want-clause-flaw g c =
     let h = c.in_ok-header.header in
-    λ _. truncated_told most_read_side _ c.in_ok-front.front.length h.raster h.width h.height h.maximum c.deref.result.now
+    λ _. truncated_known most_read_side _ c.in_ok-front.front.length h.raster h.width h.height h.maximum c.deref.result.now
     (rw c.deref.ensures.value c.in_ok-front.ensures.front) c.in_ok-header.ensures.header
     _ _ (rw c.deref.ensures.value c.in_ok-front.ensures.few) c.raster_length-want.ensures refl c.if-have-want.true
 
@@ -59,7 +59,7 @@ returns-clause-read g c =
 pub returns-in-Some-clause-flaw : goal.returns-in-Some-clause-flaw
 returns-in-Some-clause-flaw g c =
     let h = c.in_ok-header.header in
-    λ _. over_told most_read_side _ c.in_ok-front.front.length h.raster h.width h.height h.maximum c.deref.result.now
+    λ _. over_known most_read_side _ c.in_ok-front.front.length h.raster h.width h.height h.maximum c.deref.result.now
     (rw c.deref.ensures.value c.in_ok-front.ensures.front) c.in_ok-header.ensures.header
     _ c.deref-2.result.now c.in-Some.at c.front_of.ensures.bytes
     (rw c.deref-2.ensures.value c.in_ok-raster.ensures.piece) (rw c.deref-2.ensures.value (c.in_ok-raster.ensures.count
@@ -68,7 +68,7 @@ returns-in-Some-clause-flaw g c =
 pub returns-clause-image : goal.returns-clause-image
 returns-clause-image g c =
     let h = c.in_ok-header.header in
-    image_told most_read_side _ c.in_ok-front.front.length h.raster h.width h.height h.maximum c.deref.result.now
+    image_known most_read_side _ c.in_ok-front.front.length h.raster h.width h.height h.maximum c.deref.result.now
     (rw c.deref.ensures.value c.in_ok-front.ensures.front) c.in_ok-header.ensures.header
     _ c.in_ok-raster.raster.items c.image_of.result c.front_of.ensures.bytes
     c.in_ok-raster.ensures.piece (c.in_ok-raster.ensures.count ∙ c.raster_length-want.ensures) (rw c.deref-2.ensures.value at c.in_default.ensures.none)

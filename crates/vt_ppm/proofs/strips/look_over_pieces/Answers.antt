@@ -4,7 +4,7 @@ use Rattle.std.proofs.lemmas.Result.{err_from_is_err_and}
 use Rattle.vt_outside.proofs.Refusing.{none_made, handed_on, rose_later}
 use Rattle.vt_ppm.specs.Flaws.{IsHeaderFlaw}
 use Rattle.vt_ppm.specs.Strips.{AreRowsUpTo, piece_rows}
-use Rattle.vt_ppm.proofs.CheckedPieces.{piece_is, all_done, more_asked, last_asked, check_gains, front_gains, some_rows, found_next, none_done, none_asked, piece_room, piece_cut, samples_told}
+use Rattle.vt_ppm.proofs.CheckedPieces.{piece_is, all_done, more_asked, last_asked, check_gains, front_gains, some_rows, found_next, none_done, none_asked, piece_room, piece_cut, samples_known}
 use Rattle.vt_ppm.proofs.strips.look_over_pieces.Goals as goal
 
 pub returns-in_err-look_over_rows-clause-flaw : goal.returns-in_err-look_over_rows-clause-flaw
@@ -48,7 +48,7 @@ loop-piece-preserved g c =
 pub returns-clause-few : goal.returns-clause-few
 returns-clause-few g c =
     let h = c.args.header.now in
-    samples_told (g.F.File.bytes c.args.file.now) h (min (c.loop-piece.piece * piece_rows h) h.height)
+    samples_known (g.F.File.bytes c.args.file.now) h (min (c.loop-piece.piece * piece_rows h) h.height)
     (all_done h c.piece_rows-step.result c.pieces_of-piece-end.result c.loop-piece.piece c.piece_rows-step.ensures.value c.piece_rows-step.ensures.some
     c.pieces_of-piece-end.ensures.value (omega (arith, c.loop-piece-test.false, c.loop-piece.auto.piece-end))) c.loop-piece.invariant.few
 

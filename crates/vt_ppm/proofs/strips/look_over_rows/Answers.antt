@@ -1,7 +1,7 @@
 use Rattle.std.proofs.Common.{◌≡◌, ◌*◌, ◌∙◌, length, true, false, refl}
 use Rattle.vt_outside.proofs.Refusing.{none_made, handed_on}
 use Rattle.vt_ppm.specs.Strips.{row_length}
-use Rattle.vt_ppm.proofs.StripLaws.{rows_inside, rows_full, more_told, over_told, rows_noted, over_before, failed_rows}
+use Rattle.vt_ppm.proofs.StripLaws.{rows_inside, rows_full, more_known, over_known, rows_noted, over_before, failed_rows}
 use Rattle.vt_ppm.specs.declared.error.PpmError.TheVariants.{Failed}
 use Rattle.vt_ppm.proofs.strips.look_over_rows.Goals as goal
 
@@ -20,13 +20,13 @@ first_over-requires g c = record {
 
 pub returns-in-Some-clause-flaw : goal.returns-in-Some-clause-flaw
 returns-in-Some-clause-flaw g c = λ _.
-    over_told (g.F.File.bytes c.args.file.now) c.args.header.now c.read_at.new.buf c.args.y c.args.count c.row_start-start.result
+    over_known (g.F.File.bytes c.args.file.now) c.args.header.now c.read_at.new.buf c.args.y c.args.count c.row_start-start.result
     c.sample_count.result c.row_start-start.ensures.value c.in_ok-read_at.ensures.piece (c.read_at.auto.buf ∙ c.requires.size)
     c.sample_count.ensures c.in-Some.number c.depth_of.result _ c.requires.raster c.requires.inside c.depth_of.ensures.value c.in-Some.ensures refl
 
 pub returns-in-None-clause-few : goal.returns-in-None-clause-few
 returns-in-None-clause-few g c =
-    more_told (g.F.File.bytes c.args.file.now) c.args.header.now c.read_at.new.buf c.args.y c.args.count c.row_start-start.result
+    more_known (g.F.File.bytes c.args.file.now) c.args.header.now c.read_at.new.buf c.args.y c.args.count c.row_start-start.result
     c.sample_count.result c.row_start-start.ensures.value c.in_ok-read_at.ensures.piece (c.read_at.auto.buf ∙ c.requires.size)
     c.sample_count.ensures c.in-None.ensures
 

@@ -16,12 +16,12 @@ returns-clause-follows g c =
     (subst (λ (n : ℕ). Follows s js table.entries.items n) (sym c.in_ok-stage.ensures.version) c.in_ok-table.ensures.follows)
 
 pub returns-clause-tiles : goal.returns-clause-tiles
-returns-clause-tiles g c = λ told.
+returns-clause-tiles g c = λ known.
     let tiles = c.in_ok-tiles.tiles in
     let new = c.in_ok-stage.stage.tiles in
     let did = c.in_ok-stage.ensures in
     tiles_same c.args.geometry.now c.args.depth tiles.size new.size tiles.slots.items tiles.owners.items tiles.bytes.items
-    new.slots.items new.owners.items new.bytes.items told did.size did.slots did.owners did.bytes (c.in_ok-tiles.ensures told)
+    new.slots.items new.owners.items new.bytes.items known did.size did.slots did.owners did.bytes (c.in_ok-tiles.ensures known)
 
 pub returns-clause-samples : goal.returns-clause-samples
 returns-clause-samples g c = c.in_ok-stage.ensures.samples

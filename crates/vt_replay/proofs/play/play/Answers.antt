@@ -73,7 +73,7 @@ play_passes-requires-clause-root g c = λ _ _.
     mapped
 
 pub returns-clause-wrote : goal.returns-clause-wrote
-returns-clause-wrote g c = λ b told.
+returns-clause-wrote g c = λ b known.
     let content = c.args.text.now.content in
     let path = c.args.path.now in
     let s = c.args.store.now.shape in
@@ -81,6 +81,6 @@ returns-clause-wrote g c = λ b told.
     let before = g.D.Folder.files c.args.folder.now in
     let after = g.D.Folder.files c.play_passes.new.folder in
     let r = c.play_passes.result in
-    let wrote = c.play_passes.ensures.wrote b told in
+    let wrote = c.play_passes.ensures.wrote b known in
     subst (λ (l : List Change). HasWritten (expected_pictures c.args.prefix.now (replay_file g.P.Filter.under (stored b) (scene_of s d path)
     l content.passes) (pictures_of content.passes)) before after r) c.requires.changes wrote

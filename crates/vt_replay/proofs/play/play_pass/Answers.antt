@@ -8,16 +8,16 @@ use Rattle.vt_replay_rows.specs.Pictures.{expected_picture}
 use Rattle.vt_replay_rows.specs.Scenes.{scene_of}
 use Rattle.vt_replay.specs.Replayed.{replayed_rows}
 use Rattle.vt_replay.proofs.Written.{nothing_written, samples_written}
-use Rattle.vt_outside.proofs.Untold.{OnOk-all}
+use Rattle.vt_outside.proofs.UnknownContents.{OnOk-all}
 use Rattle.vt_replay.proofs.play.play_pass.Goals as goal
 
 pub returns-in_err-show_pass-clause-wrote : goal.returns-in_err-show_pass-clause-wrote
-returns-in_err-show_pass-clause-wrote g c = λ b told.
+returns-in_err-show_pass-clause-wrote g c = λ b known.
     let p = err_from_is_err_and c.from_residual.result c.from_residual.ensures.1 in
     rw p.1 (nothing_written _ (g.D.Folder.files c.args.folder.now) p.0)
 
 pub returns-clause-wrote : goal.returns-clause-wrote
-returns-clause-wrote g c = λ b told.
+returns-clause-wrote g c = λ b known.
     let shot = c.args.shot.now in
     let shown : ℕ → List ℕ = λ (picture : ℕ). replayed_rows g.P.Filter.under (stored b) (scene_of shot.geometry.now shot.depth shot.path.now)
     c.args.journal.now.changes c.args.pass.now.rows.elements picture shot.path.now.height in
@@ -29,7 +29,7 @@ returns-clause-wrote g c = λ b told.
     (λ _. picture_bytes shot.depth shot.path.now.width h c.as_slice.result.now) shot.picture ∷ []) p c.write_picture.result)
     c.height.ensures.value moved in
     samples_written c.args.prefix.now shot.depth shot.path.now.width shot.path.now.height shot.picture c.as_slice.result.now shown p c.write_picture.result
-    (c.as_slice.ensures.value ∙ c.in_ok-show_pass.ensures.shown b told) again
+    (c.as_slice.ensures.value ∙ c.in_ok-show_pass.ensures.shown b known) again
 
 pub returns-in_err-show_pass-clause-asks : goal.returns-in_err-show_pass-clause-asks
 returns-in_err-show_pass-clause-asks g c = record { asked = refl; faults = omega arith }

@@ -25,7 +25,7 @@ loop-i-init g c = record {
   turn = turn_first c.args.path.now.height c.args.text.now.content.pinned (length c.args.text.now.changes) c.args.stage.now.table.version
       c.args.text.now.content.passes c.requires.passes c.requires.first;
   asks = record { asked = refl; faults = omega arith };
-  files = λ b told. no_pictures c.args.prefix.now (replay_file g.P.Filter.under (stored b) (scene_of c.args.store.now.shape c.args.store.now.depth c.args.path.now)
+  files = λ b known. no_pictures c.args.prefix.now (replay_file g.P.Filter.under (stored b) (scene_of c.args.store.now.shape c.args.store.now.depth c.args.path.now)
       c.args.text.now.changes c.args.text.now.content.passes) (folder_state g.D.Folder c.args.folder.now);
   read = read_none g.D.File.File c.args.store.now;
 }
@@ -50,7 +50,7 @@ returns-in_err-play_pass-clause-read g c =
     read_then g.D.File.File c.args.store.now c.loop-i.store c.play_pass.new.store c.loop-i.invariant.read c.play_pass.ensures.read
 
 pub returns-in_err-play_pass-clause-wrote : goal.returns-in_err-play_pass-clause-wrote
-returns-in_err-play_pass-clause-wrote g c = λ b told.
+returns-in_err-play_pass-clause-wrote g c = λ b known.
     let e = err_from_is_err_and c.from_residual.result c.from_residual.ensures.1 in
     let passes = c.args.text.now.content.passes in
     let path = c.args.path.now in
@@ -72,9 +72,9 @@ returns-in_err-play_pass-clause-wrote g c = λ b told.
     let before = folder_state g.D.Folder c.args.folder.now in
     let mid = folder_state g.D.Folder c.loop-i.folder in
     let after = folder_state g.D.Folder c.play_pass.new.folder in
-    let have = subst (λ (n : ℕ). HasPictures c.args.prefix.now file n before mid) turn.0 (c.loop-i.invariant.files b told) in
+    let have = subst (λ (n : ℕ). HasPictures c.args.prefix.now file n before mid) turn.0 (c.loop-i.invariant.files b known) in
     rw e.1 (one_stopped c.args.prefix.now file shown p.picture (pictures_of passes) before mid after c.in_err-play_pass.field-0.0 low same have
-    c.play_pass.ensures.asks (c.in_err-play_pass.ensures.wrote b (c.loop-i.invariant.read.bytes ∙ told)))
+    c.play_pass.ensures.asks (c.in_err-play_pass.ensures.wrote b (c.loop-i.invariant.read.bytes ∙ known)))
 
 pub overflow_add-done : goal.overflow_add-done
 overflow_add-done g c =
@@ -129,7 +129,7 @@ loop-i-preserved g c =
           c.requires.passes c.pass-pass.ensures turn.0 (λ q at. c.if-not-is_last.ensures.last refl p q c.pass-pass.ensures at)
           (λ q at. did.there ∙ c.last_of-last.ensures.next q at);
       asks = record { asked = later.asked ∙ first.asked; faults = omega (arith, low, high) };
-      files = λ b told.
+      files = λ b known.
           let file : ℕ → List ℕ = replay_file g.P.Filter.under (stored b) (scene_of s d path) c.args.text.now.changes passes in
           let shown : ℕ → List ℕ = λ (picture : ℕ). picture_bytes c.depth-depth.result path.width path.height (replayed_rows g.P.Filter.under (stored b)
           (scene_of c.geometry-geometry.result c.depth-depth.result path) c.journal-journal.result.now.changes p.rows picture path.height) in
@@ -137,9 +137,9 @@ loop-i-preserved g c =
           c.journal-journal.result.now.changes c.args.text.now.content.pinned (length c.args.text.now.changes) passes loop.i p
           c.geometry-geometry.ensures.shape c.depth-depth.ensures.value c.journal-journal.ensures c.requires.passes c.pass-pass.ensures
           (λ q at. c.if-not-is_last.ensures.last refl p q c.pass-pass.ensures at) in
-          let have = subst (λ (n : ℕ). HasPictures c.args.prefix.now file n before mid) turn.0 (loop.invariant.files b told) in
+          let have = subst (λ (n : ℕ). HasPictures c.args.prefix.now file n before mid) turn.0 (loop.invariant.files b known) in
           subst (λ (n : ℕ). HasPictures c.args.prefix.now file (n + 1) before after) (sym turn.0)
-          (one_more c.args.prefix.now file shown p.picture before mid after same have later (did.wrote b (loop.invariant.read.bytes ∙ told)));
+          (one_more c.args.prefix.now file shown p.picture before mid after same have later (did.wrote b (loop.invariant.read.bytes ∙ known)));
       read = read_then g.D.File.File c.args.store.now loop.store c.play_pass.new.store loop.invariant.read did.read;
     }
 
@@ -152,7 +152,7 @@ returns-clause-count g c =
     (slice_get_past passes c.loop-i.i past) c.loop-i.invariant.turn
 
 pub returns-clause-wrote : goal.returns-clause-wrote
-returns-clause-wrote g c = λ b told.
+returns-clause-wrote g c = λ b known.
     let passes = c.args.text.now.content.passes in
     let past : length passes ≤ c.loop-i.i = omega (arith, c.loop-i-test.false, c.passes-i-end.ensures) in
     let count : c.loop-i.done ≡ pictures_of passes =
@@ -160,7 +160,7 @@ returns-clause-wrote g c = λ b told.
     (c.loop-i.stage.table.version ≤ q.start)))
     (slice_get_past passes c.loop-i.i past) c.loop-i.invariant.turn in
     let file : ℕ → List ℕ = replay_file g.P.Filter.under (stored b) (scene_of c.args.store.now.shape c.args.store.now.depth c.args.path.now) c.args.text.now.changes passes in
-    (c.loop-i.invariant.files b told).files
+    (c.loop-i.invariant.files b known).files
     ∙ ap (λ (n : ℕ). option_map (with_files (expected_pictures c.args.prefix.now file n)) (g.D.Folder.files c.args.folder.now)) count
 
 pub returns-in_err-play_pass-clause-asks : goal.returns-in_err-play_pass-clause-asks

@@ -8,7 +8,7 @@ use Rattle.vt_replay_rows.specs.Scenes.{scene_of}
 use Rattle.vt_replay_rows.specs.Replays.{HasPixels}
 use Rattle.vt_replay_rows.specs.Following.{IsReadOn}
 use Rattle.vt_replay.specs.Playing.{IsStaged}
-use Rattle.vt_replay_rows.specs.ReplayLookups.{row_of}
+use Rattle.vt_replay_rows.specs.ReplayLookups.{bytes_row}
 use Rattle.vt_replay.proofs.play.show_pass.Given as goal
 
 -- the rows of the versions so far are drawn
@@ -23,6 +23,6 @@ invariant-loop-version g l = record {
       → (y : ℕ) (row : RowLine) → slice_get l.pass.rows.elements y ≡ Some row → row.version < l.version
       → HasPixels l.shot.depth l.shot.path.now.width
       (λ x. g.P.Filter.under (stored b) (scene_of l.shot.geometry.now l.shot.depth l.shot.path.now) (at l.journal.changes row.version) l.shot.picture x y)
-      (row_of (texel_length l.shot.depth * l.shot.path.now.width) l.stage.samples.items y);
+      (bytes_row (texel_length l.shot.depth * l.shot.path.now.width) l.stage.samples.items y);
   read : IsReadOn g.F.File l.fn.store l.store;
 }

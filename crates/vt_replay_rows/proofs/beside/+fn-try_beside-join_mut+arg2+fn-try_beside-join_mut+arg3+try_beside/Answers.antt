@@ -2,7 +2,7 @@ use Rattle.std.proofs.Common.{◌≡◌, ℕ, ◌+◌, ◌*◌, ◌≤◌, lengt
 use Rattle.vt_definitions.specs.Depths.{texel_length}
 use Rattle.vt_journal.specs.Kept.{entries_of}
 use Rattle.vt_pictures.specs.Scenes.{scene_of}
-use Rattle.vt_replay_rows.specs.Trying.{ShowsRow, MayTry, HasTried}
+use Rattle.vt_replay_rows.specs.Trying.{ShowsRow, MayTry, HasTriedRows}
 use Rattle.vt_replay_rows.proofs.Trying.{may_front, may_behind, tried_both}
 use Rattle.vt_replay_rows.proofs.beside.+fn-try_beside-join_mut+arg2+fn-try_beside-join_mut+arg3+try_beside.Goals as goal
 
@@ -46,9 +46,9 @@ returns g t c =
     let high_names = c.join_mut.ensures.1.met.0 in
     let high_left_is = c.high_left-1.given.1.1 (search rules) in
     let high_is = c.high-1.given.1.1 (search rules) in
-    let low : HasTried g.P.Filter.under c.args.shot.now c.args.lookup.now c.args.first c.split_at_mut-low_left.result.0.now
+    let low : HasTriedRows g.P.Filter.under c.args.shot.now c.args.lookup.now c.args.first c.split_at_mut-low_left.result.0.now
     c.low_left-1.given.0 c.split_at_mut-low.result.0.now c.low-1.given.0 = rw (low_left_is, low_is) c.join_mut.ensures.0.met.1 in
-    let high : HasTried g.P.Filter.under c.args.shot.now c.args.lookup.now (c.args.first + c.place_behind-cut.result)
+    let high : HasTriedRows g.P.Filter.under c.args.shot.now c.args.lookup.now (c.args.first + c.place_behind-cut.result)
     c.split_at_mut-low_left.result.1.now c.high_left-1.given.0 c.split_at_mut-low.result.1.now c.high-1.given.0 = rw (high_left_is, high_is) c.join_mut.ensures.1.met.1 in
     let same : length c.low_left-1.given.0 ≡ length c.split_at_mut-low_left.result.0.now = search rules in
     let full : length c.low-1.given.0 ≡ length c.split_at_mut-low.result.0.now = search rules in
@@ -59,10 +59,10 @@ returns g t c =
     let bytes : length c.split_at_mut-low.result.0.now ≡ cut * (texel_length shot.depth * shot.path.now.width) =
     c.split_at_mut-low.ensures.front_len ∙ ap (λ (w : ℕ). cut * w) (sym wide) in
     record {
-      tried = λ told held. tried_both (texel_length shot.depth * shot.path.now.width) c.args.first (c.args.first + cut) cut
-          (ShowsRow g.P.Filter.under (scene_of shot.geometry.now shot.depth shot.path.now) (entries_of c.args.lookup.now.entries) told shot.picture)
+      tried = λ known held. tried_both (texel_length shot.depth * shot.path.now.width) c.args.first (c.args.first + cut) cut
+          (ShowsRow g.P.Filter.under (scene_of shot.geometry.now shot.depth shot.path.now) (entries_of c.args.lookup.now.entries) known shot.picture)
           c.split_at_mut-low_left.result.0.now c.split_at_mut-low_left.result.1.now c.low_left-1.given.0 c.high_left-1.given.0
           c.split_at_mut-low.result.0.now c.split_at_mut-low.result.1.now c.low-1.given.0 c.high-1.given.0
-          c.split_at_mut-low_left.ensures.front_len bytes same full refl (low told held) (high told held) c.args.left.now c.args.samples.now
+          c.split_at_mut-low_left.ensures.front_len bytes same full refl (low known held) (high known held) c.args.left.now c.args.samples.now
           c.split_at_mut-low_left.ensures.value c.split_at_mut-low.ensures.value;
     }

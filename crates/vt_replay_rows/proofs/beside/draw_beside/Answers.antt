@@ -1,6 +1,6 @@
 use Rattle.std.proofs.Common.{ℕ, List, Option, refl, sym, subst}
 use Rattle.vt_replay_rows.specs.ReplayLookups.{IsReplayLookup}
-use Rattle.vt_replay_rows.specs.Trying.{replay_lookup_of, HoldsTiles}
+use Rattle.vt_replay_rows.specs.Trying.{replay_lookup_of, HoldsStoreTiles}
 use Rattle.vt_replay_rows.proofs.Reading.{read_none, read_then}
 use Rattle.vt_replay_rows.proofs.Readying.{ready_after, ready_replay_lookup, tiles_same}
 use Rattle.vt_replay_rows.proofs.Tiling.{tiles_under}
@@ -30,12 +30,12 @@ bring_missing-requires g c =
     let old = loop.tiles in
     let new = c.touch_used.new.tiles in
     let did = c.touch_used.ensures in
-    let told = g.F.File.bytes loop.store.file in
+    let known = g.F.File.bytes loop.store.file in
     let ready = loop.invariant.ready in
     record {
-      tiles = tiles_under loop.store.shape shot.geometry.now loop.store.depth shot.depth new.size new.slots.items new.owners.items new.bytes.items told told
+      tiles = tiles_under loop.store.shape shot.geometry.now loop.store.depth shot.depth new.size new.slots.items new.owners.items new.bytes.items known known
           (sym ready.shape) (sym ready.depth) refl (tiles_same shot.geometry.now shot.depth old.size new.size old.slots.items old.owners.items
-          old.bytes.items new.slots.items new.owners.items new.bytes.items told did.size did.slots did.owners did.bytes ready.tiles);
+          old.bytes.items new.slots.items new.owners.items new.bytes.items known did.size did.slots did.owners did.bytes ready.tiles);
     }
 
 pub returns-in_err-bring_missing-clause-read : goal.returns-in_err-bring_missing-clause-read
@@ -50,11 +50,11 @@ loop-round-preserved g c =
     let loop = c.loop-round in
     let ready = loop.invariant.ready in
     let new = c.bring_missing.new.tiles in
-    let told = g.F.File.bytes loop.store.file in
+    let known = g.F.File.bytes loop.store.file in
     let read = c.bring_missing.ensures.read in
-    let tiles = tiles_under s loop.store.shape d loop.store.depth new.size new.slots.items new.owners.items new.bytes.items told told
+    let tiles = tiles_under s loop.store.shape d loop.store.depth new.size new.slots.items new.owners.items new.bytes.items known known
     ready.shape ready.depth refl c.in_ok-bring_missing.ensures.tiles in
-    let held = subst (λ (o : Option (List ℕ)). HoldsTiles s d (replay_lookup_of s d c.args.table.now loop.tiles) o) loop.invariant.read.bytes ready.tiles in
+    let held = subst (λ (o : Option (List ℕ)). HoldsStoreTiles s d (replay_lookup_of s d c.args.table.now loop.tiles) o) loop.invariant.read.bytes ready.tiles in
     record {
       ready = ready_after g.F.File s d c.args.table.now.entries.items loop.tiles.size new.size loop.tiles.slots.items loop.tiles.owners.items
           loop.tiles.bytes.items new.slots.items new.owners.items new.bytes.items loop.store c.bring_missing.new.store ready read tiles;

@@ -1,7 +1,7 @@
 use Rattle.std.proofs.Common.{ℕ, ◌*◌, length, sym, ap, ◌∙◌, subst, arith}
 use Rattle.vt_definitions.specs.Depths.{texel_length}
 use Rattle.vt_replay_rows.specs.ReplayLookups.{ReplayLookupView}
-use Rattle.vt_replay_rows.specs.Trying.{MayTry, HasTried}
+use Rattle.vt_replay_rows.specs.Trying.{MayTry, HasTriedRows}
 use Rattle.vt_replay_rows.proofs.beside.try_in_parts.Goals as goal
 
 pub try_beside-requires-clause-may : goal.try_beside-requires-clause-may
@@ -20,5 +20,5 @@ try_beside-requires-clause-may g c = λ _ _.
 
 pub returns : goal.returns
 returns g c =
-    subst (λ (v : ReplayLookupView). HasTried g.P.Filter.under c.args.shot.now v 0 c.args.left.now c.try_beside.new.left c.args.samples.now
+    subst (λ (v : ReplayLookupView). HasTriedRows g.P.Filter.under c.args.shot.now v 0 c.args.left.now c.try_beside.new.left c.args.samples.now
     c.try_beside.new.samples) c.new-replay_lookup.ensures c.try_beside.ensures.tried

@@ -6,7 +6,7 @@ use Rattle.vt_replay_rows.proofs.beside.try_rows.Goals as goal
 
 pub loop-k-init : goal.loop-k-init
 loop-k-init g c = record {
-  tried = λ told tiles. tried_none _ _ _ c.args.left.now c.args.samples.now;
+  tried = λ known tiles. tried_none _ _ _ c.args.left.now c.args.samples.now;
   counted = λ p inside. (let none = c.clear.ensures p inside in omega (arith, none));
 }
 
@@ -34,7 +34,7 @@ pub loop-k-preserved : goal.loop-k-preserved
 loop-k-preserved g c =
     let at = c.loop-k in
     record {
-      tried = λ told tiles. tried_then _ _ _ c.args.left.now at.left c.try_next.new.left c.args.samples.now at.samples c.try_next.new.samples
-          (at.invariant.tried told tiles) (c.try_next.ensures.tried told tiles);
+      tried = λ known tiles. tried_then _ _ _ c.args.left.now at.left c.try_next.new.left c.args.samples.now at.samples c.try_next.new.samples
+          (at.invariant.tried known tiles) (c.try_next.ensures.tried known tiles);
       counted = λ p inside. omega (arith, c.try_next.ensures.counted p inside, at.invariant.counted p (omega arith));
     }

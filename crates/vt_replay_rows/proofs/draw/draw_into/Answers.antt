@@ -10,7 +10,7 @@ slice_bounds-draw_line-end g c =
     row_room c.args.y c.args.shot.now.path.now.height (c.texel_length.result * c.width.result) (length c.args.samples.now) c.requires.within all
 
 pub returns-clause-shown : goal.returns-clause-shown
-returns-clause-shown g c = λ b told store x inside.
+returns-clause-shown g c = λ b known store x inside.
     let shot = c.args.shot.now in
     let line = c.texel_length.result * c.width.result in
     let wide : texel_length shot.depth * shot.path.now.width ≡ line = rw (c.texel_length.ensures.value, c.width.ensures.value) in
@@ -19,7 +19,7 @@ returns-clause-shown g c = λ b told store x inside.
     ap (λ (t : List ℕ). texel_bytes shot.depth t x)
     (row_written (texel_length shot.depth * shot.path.now.width) line c.args.y (c.args.y * line + line - c.args.y * line) shot.path.now.height
     c.args.samples.now c.draw_line.new.out wide c.requires.within all full)
-    ∙ c.in_ok-draw_line.ensures.shown b told store x inside
+    ∙ c.in_ok-draw_line.ensures.shown b known store x inside
 
 pub returns-clause-others : goal.returns-clause-others
 returns-clause-others g c = λ z other.

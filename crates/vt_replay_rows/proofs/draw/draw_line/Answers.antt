@@ -1,5 +1,5 @@
 use Rattle.std.proofs.Common.{ℕ, List, Option, refl, subst, arith}
-use Rattle.vt_replay_rows.specs.Trying.{replay_lookup_of, HoldsTiles}
+use Rattle.vt_replay_rows.specs.Trying.{replay_lookup_of, HoldsStoreTiles}
 use Rattle.vt_replay_rows.proofs.Reading.{read_then}
 use Rattle.vt_replay_rows.proofs.Readying.{ready_after, ready_replay_lookup}
 use Rattle.vt_replay_rows.proofs.Tiling.{tiles_under}
@@ -30,9 +30,9 @@ loop-round-preserved g c =
     let loop = c.loop-round in
     let ready = loop.invariant.ready in
     let new = c.bring_all.new.tiles in
-    let told = g.F.File.bytes loop.store.file in
+    let known = g.F.File.bytes loop.store.file in
     let read = c.bring_all.ensures.read in
-    let tiles = tiles_under s loop.store.shape d loop.store.depth new.size new.slots.items new.owners.items new.bytes.items told told
+    let tiles = tiles_under s loop.store.shape d loop.store.depth new.size new.slots.items new.owners.items new.bytes.items known known
     ready.shape ready.depth refl c.in_ok-bring_all.ensures.tiles in
     record {
       ready = ready_after g.F.File s d c.args.table.now.entries.items loop.tiles.size new.size loop.tiles.slots.items loop.tiles.owners.items
@@ -51,5 +51,5 @@ pub returns-then-not-tried-clause-shown : goal.returns-then-not-tried-clause-sho
 returns-then-not-tried-clause-shown g c =
     let shot = c.args.shot.now in
     let loop = c.loop-round in
-    let held = subst (λ (o : Option (List ℕ)). HoldsTiles shot.geometry.now shot.depth (replay_lookup_of shot.geometry.now shot.depth c.args.table.now loop.tiles) o) loop.invariant.read.bytes loop.invariant.ready.tiles in
+    let held = subst (λ (o : Option (List ℕ)). HoldsStoreTiles shot.geometry.now shot.depth (replay_lookup_of shot.geometry.now shot.depth c.args.table.now loop.tiles) o) loop.invariant.read.bytes loop.invariant.ready.tiles in
     c.try_once-tried.ensures.shown c.if-not-tried.true (g.F.File.bytes c.args.store.now.file) held

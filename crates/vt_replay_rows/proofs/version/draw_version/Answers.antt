@@ -14,11 +14,11 @@ returns-clause-shown g c = λ y row is named.
     let wide = texel_length shot.depth * shot.path.now.width in
     let shows : Option (List ℕ) → ℕ → List ℕ → Type 0 = λ (o : Option (List ℕ)) (k : ℕ) (bytes : List ℕ).
     ShowsRow g.P.Filter.under (scene_of shot.geometry.now shot.depth shot.path.now) (entries_of c.args.table.now.entries.items) o shot.picture k bytes in
-    let told = g.F.File.bytes c.args.store.now.file in
-    let tried = tried_on wide shows told (g.F.File.bytes c.draw_beside.new.store.file) c.mark_rows.new.left c.draw_beside.new.left c.draw_left.new.left
+    let known = g.F.File.bytes c.args.store.now.file in
+    let tried = tried_on wide shows known (g.F.File.bytes c.draw_beside.new.store.file) c.mark_rows.new.left c.draw_beside.new.left c.draw_left.new.left
     c.args.samples.now c.draw_beside.new.samples c.draw_left.new.samples c.draw_beside.ensures.read.bytes c.in_ok-draw_beside.ensures.tried
     c.in_ok-draw_left.ensures.tried in
-    tried_all wide y (shows told) c.mark_rows.new.left c.draw_left.new.left c.args.samples.now c.draw_left.new.samples tried
+    tried_all wide y (shows known) c.mark_rows.new.left c.draw_left.new.left c.args.samples.now c.draw_left.new.samples tried
     c.in_ok-draw_left.ensures.done (c.mark_rows.ensures y row is ∙ eq-eqb row.version c.args.version named)
 
 pub returns-clause-kept : goal.returns-clause-kept

@@ -2,7 +2,7 @@ use Rattle.std.proofs.Common.{arith, ◌≡◌, ◌+◌, ◌<◌, ◌∙◌, ap,
 use Rattle.std.proofs.lemmas.Option.{slice_get-get_or}
 use Rattle.vt_table.specs.Pages.{pages_of}
 use Rattle.vt_load.specs.Format.{tile_length}
-use Rattle.vt_load.specs.Queues.{view_of}
+use Rattle.vt_load.specs.Queues.{queue_view_of}
 use Rattle.vt_machine.specs.PlanTypes.batches.Planned.{Planned}
 use Rattle.vt_load.proofs.Dealing.{popped_all}
 use Rattle.vt_requests.specs.BatchRounds.{ArePut, page_if}
@@ -32,7 +32,7 @@ put_next-requires g c =
     let low : c.loop-ticket.ticket < length c.args.batch.now = omega (arith, test) in
     record {
       of = c.loop-ticket.invariant.of.0;
-      room = not_full c.args.requests.now c.loop-ticket.ticket (length c.args.batch.now) (view_of c.loop-ticket.asks) c.loop-ticket.invariant.put low
+      room = not_full c.args.requests.now c.loop-ticket.ticket (length c.args.batch.now) (queue_view_of c.loop-ticket.asks) c.loop-ticket.invariant.put low
           c.requires.room;
     }
 
@@ -52,12 +52,12 @@ loop-ticket-preserved g c =
     let long : length all ≡ length rest + 1 = ap length is.buffer ∙ length-append rest (one ∷ []) in
     record {
       of = (c.put_next.ensures.of.0, c.put_next.ensures.of.1 ∙ i.of.1);
-      put = put_more ticket (view_of c.loop-ticket.asks) (view_of c.put_next.new.asks) _ i.put puts;
+      put = put_more ticket (queue_view_of c.loop-ticket.asks) (queue_view_of c.put_next.new.asks) _ i.put puts;
       count = (let a = i.count in omega (arith, a, long));
       room = (let a = i.room in let b = is.room in omega (arith, a, b));
       asked = λ s d pages sizes.
           let page = is.page ∙ ap page_if (slice_get-get_or batch ticket blank low) in
-          asked_more s d batch ticket (view_of c.loop-ticket.asks) (view_of c.put_next.new.asks) _ blank (i.asked s d pages sizes) puts low is.ticket page
+          asked_more s d batch ticket (queue_view_of c.loop-ticket.asks) (queue_view_of c.put_next.new.asks) _ blank (i.asked s d pages sizes) puts low is.ticket page
           (subst (λ p. p < pages_of s) (sym page) (pages ticket blank low))
           (popped_all (λ b. length b.elements ≡ tile_length s d) all rest one is.buffer (i.sizes (tile_length s d) sizes)).1;
       sizes = λ n sizes. (popped_all (λ b. length b.elements ≡ n) all rest one is.buffer (i.sizes n sizes)).0;
@@ -71,7 +71,7 @@ returns g c =
     let all : c.loop-ticket.ticket ≡ length c.args.batch.now = omega (arith, low, high) in
     record {
       of = i.of;
-      asked = λ s d pages sizes. subst (λ n. ArePut s d c.args.batch.now n (view_of c.loop-ticket.asks)) all (i.asked s d pages sizes);
+      asked = λ s d pages sizes. subst (λ n. ArePut s d c.args.batch.now n (queue_view_of c.loop-ticket.asks)) all (i.asked s d pages sizes);
       left = i.sizes;
       count = ap (λ n. length c.loop-ticket.buffers.elements + n) (sym all) ∙ i.count;
       room = i.room ∙ ap (λ n. c.args.buffers.now.spare + n) all;

@@ -2,7 +2,7 @@ use Rattle.std.proofs.Common.{◌≡◌, List, sym, ap, subst, ◌∙◌, length
 use Rattle.vt_pages.specs.Limits.{most_frames}
 use Rattle.vt_evict.specs.PlanTypes.batches.Planned.{Planned}
 use Rattle.vt_plan.specs.Views.{RecencyView}
-use Rattle.vt_evict.specs.Batches.{IsLawful}
+use Rattle.vt_evict.specs.Batches.{IsLawfulBatch}
 use Rattle.std.specs.List.{filter}
 use Rattle.std.proofs.Common.{◌++◌, ◌≤◌}
 use Rattle.vt_residency.specs.Loads.{is_apart}
@@ -32,12 +32,12 @@ returns-clause-lawful c =
     let loads : List Planned = c.args.loads.now.elements in
     let plan : List Planned = c.in_ok-plan.plan.elements in
     let v : RecencyView = c.touch.new.self in
-    let before : IsLawful v loads = subst (λ (x : RecencyView). IsLawful x loads) (sym c.touch.ensures.touched)
+    let before : IsLawfulBatch v loads = subst (λ (x : RecencyView). IsLawfulBatch x loads) (sym c.touch.ensures.touched)
     (lawful_touched c.args.recency.now c.in_ok-wants.wants.elements loads c.requires.lawful) in
     let added : c.add_apart.new.loads.elements ≡ loads ++ filter (is_apart loads) plan =
     c.add_apart.ensures ∙ ap (λ (l : List Planned). l ++ filter (is_apart l) c.slice.result.now) c.reserve.ensures.elements
     ∙ ap (λ (p : List Planned). loads ++ filter (is_apart loads) p) c.slice.ensures in
-    subst (IsLawful v) (sym added) (lawful_more v loads plan before c.in_ok-plan.ensures.lawful)
+    subst (IsLawfulBatch v) (sym added) (lawful_more v loads plan before c.in_ok-plan.ensures.lawful)
 
 pub returns-clause-few : goal.returns-clause-few
 returns-clause-few c = few_lawful c.touch.new.self c.add_apart.new.loads.elements c.touch.ensures.table (returns-clause-lawful c)

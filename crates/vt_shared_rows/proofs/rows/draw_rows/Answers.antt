@@ -10,7 +10,7 @@ use Rattle.vt_sampler.proofs.Holding.{none_held, held_then}
 use Rattle.vt_sampler.proofs.Sharing.{wants-none, wants-push}
 use Rattle.vt_shared_rows.specs.declared.bag.RowJob.{RowJob}
 use Rattle.vt_shared_rows.specs.Bags.{view_of}
-use Rattle.vt_shared_rows.specs.SharedRows.{HasTaken, IsKeptRow, VersionsRise, rows_of, versions_of}
+use Rattle.vt_shared_rows.specs.SharedRows.{HasTakenRows, IsKeptRow, VersionsRise, rows_of, versions_of}
 use Rattle.vt_shared_rows.proofs.Taken.{rows_push, taken_none, taken_more, taken_number, taken_ends}
 use Rattle.vt_shared_rows.proofs.Keepers.{wants_most, rows_number, kept_more, versions_more, versions_push}
 use Rattle.vt_shared_rows.proofs.rows.draw_rows.Goals as goal
@@ -82,7 +82,7 @@ loop-preserved g c =
       of = e.of;
       holds = subst (HasHeldMore first new) (sym (versions_push kept now) ∙ ap (λ (l : List RowJob). reverse (versions_of l)) (sym all))
           (held_then first c.loop.pass.view new (reverse (versions_of kept)) now.version i.holds e.more);
-      taken = subst (λ (l : List RowJob). (t : HasTaken path.height (row_length d path.width) (view_of c.args.own.now) (view_of c.take_row.new.own) l)
+      taken = subst (λ (l : List RowJob). (t : HasTakenRows path.height (row_length d path.width) (view_of c.args.own.now) (view_of c.take_row.new.own) l)
           × (c.loop.counter + 1 ≤ length t.got)) (sym all) (
             taken_more path.height (row_length d path.width) (view_of c.args.own.now) (view_of c.loop.own) (view_of c.take_row.new.own) kept job now
                 i.taken.0 c.in-Some.ensures.some.0 e.row,

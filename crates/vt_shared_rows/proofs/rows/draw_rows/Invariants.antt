@@ -4,17 +4,17 @@ use Rattle.vt_draw.specs.Shots.{wants_in_rows}
 use Rattle.vt_grace.specs.Tokens.{IsPassOf}
 use Rattle.vt_sampler.specs.LookupNotes.{HasHeldMore}
 use Rattle.vt_sampler.specs.Samplers.{row_length}
-use Rattle.vt_shared_rows.specs.Bags.{view_of, IsOf}
-use Rattle.vt_shared_rows.specs.SharedRows.{HasTaken, IsKeptRow, VersionsRise, rows_of, versions_of}
+use Rattle.vt_shared_rows.specs.Bags.{view_of, IsPassOfBag}
+use Rattle.vt_shared_rows.specs.SharedRows.{HasTakenRows, IsKeptRow, VersionsRise, rows_of, versions_of}
 use Rattle.vt_shared_rows.proofs.rows.draw_rows.Given as goal
 
 -- the rows that were taken so far are drawn and counted, each at a version that the pass held, which never fell
 abbrev pub invariant-loop : goal.invariant-loop
 invariant-loop g l = record {
-  bag : IsOf l.bag l.own;
+  bag : IsPassOfBag l.bag l.own;
   of : IsPassOf l.words l.pass;
   holds : HasHeldMore l.fn.pass.view l.pass.view (reverse (versions_of l.kept.elements));
-  taken : (taken : HasTaken l.shot.path.now.height (row_length l.shot.depth l.shot.path.now.width) (view_of l.fn.own) (view_of l.own) l.kept.elements)
+  taken : (taken : HasTakenRows l.shot.path.now.height (row_length l.shot.depth l.shot.path.now.width) (view_of l.fn.own) (view_of l.own) l.kept.elements)
       × (l.counter ≤ length taken.got);
   drawn : All (IsKeptRow g.P.Filter l.shot.geometry.now l.shot.depth l.shot.path.now l.shot.picture l.sampler l.fn.pass.view l.pass.view)
       l.kept.elements;

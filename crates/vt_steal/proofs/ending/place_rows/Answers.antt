@@ -1,6 +1,6 @@
 use Rattle.std.proofs.Common.{◌≡◌, ◌+◌, [], ◌∷◌, ◌++◌, length, length-append, append_assoc, ap, ◌∙◌, arith}
 use Rattle.vt_load.proofs.Dealing.{popped_all}
-use Rattle.vt_steal.specs.Placing.{IsInside}
+use Rattle.vt_steal.specs.Placing.{IsRowInside}
 use Rattle.vt_steal.proofs.Placement.{placed_one}
 use Rattle.vt_steal.proofs.ending.place_rows.Goals as goal
 
@@ -10,7 +10,7 @@ loop-job-preserved c =
     let was = c.in-Some.ensures.some in
     let rest = c.pop.new.self.elements in
     let job = c.in-Some.job in
-    let all = popped_all (IsInside (length c.args.drawn.now)) c.loop-job.kept.elements rest job was i.inside in
+    let all = popped_all (IsRowInside (length c.args.drawn.now)) c.loop-job.kept.elements rest job was i.inside in
     let fewer : length c.loop-job.kept.elements ≡ length rest + 1 = ap length was ∙ length-append rest (job ∷ []) in
     record {
       inside = all.0;

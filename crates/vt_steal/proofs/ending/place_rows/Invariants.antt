@@ -1,12 +1,12 @@
 use Rattle.std.proofs.Common.{◌≡◌, ◌+◌, List, ◌++◌, length}
 use Rattle.std.specs.Prelude.{All}
 use Rattle.vt_shared_rows.specs.declared.bag.RowJob.{RowJob}
-use Rattle.vt_steal.specs.Placing.{IsInside, ArePlaced}
+use Rattle.vt_steal.specs.Placing.{IsRowInside, ArePlaced}
 use Rattle.vt_steal.proofs.ending.place_rows.Given as goal
 
 abbrev pub invariant-loop-job : goal.invariant-loop-job
 invariant-loop-job l = record {
-  inside : All (IsInside (length l.fn.drawn)) l.kept.elements;
+  inside : All (IsRowInside (length l.fn.drawn)) l.kept.elements;
   room : l.kept.spare + length l.kept.elements ≡ l.initial.kept.spare + length l.initial.kept.elements;
   placed : (rows : List RowJob) × (l.initial.kept.elements ≡ l.kept.elements ++ rows) × ArePlaced rows l.fn.drawn l.drawn;
 }

@@ -1,9 +1,9 @@
 use Rattle.std.proofs.Common.{◌<◌, get_or, sym, ap, ◌∙◌, subst, arith}
 use Rattle.vt_pages.specs.Shape.{Shape}
 use Rattle.vt_pages.specs.Pages.{pages_of}
-use Rattle.vt_word_workers.specs.Kits.{AreAllIn}
+use Rattle.vt_word_workers.specs.WorkerPools.{AreAllIn}
 use Rattle.vt_word_workers.proofs.Rooms.{streamer_still}
-use Rattle.vt_steal.specs.declared.row_kit.RowKit.{RowKit}
+use Rattle.vt_steal.specs.declared.row_pool.RowPool.{RowPool}
 use Rattle.vt_steal.proofs.Preparing.{ready_once}
 use Rattle.vt_steal.proofs.passes.prepare_pass.Goals as goal
 
@@ -11,7 +11,7 @@ pub reserve-requires : goal.reserve-requires
 reserve-requires g c =
     let early = c.requires.early in
     let few = c.requires.few in
-    let most = c.requires.idle.kit.crew.few_entries in
+    let most = c.requires.idle.pool.crew.few_entries in
     let count = c.len-entries.ensures in
     omega (arith, early, few, most, count)
 
@@ -28,7 +28,7 @@ give-requires g c =
     let roomy = c.in_ok-reserve.ensures.rest in
     record {
       of = streamer_still c.args.shared.now.words c.args.own.now.streamer c.reserve.new.self roomy idle.fit.of;
-      samplers = idle.fit.samplers ∙ sym (ap (λ (r : RowKit). r.count) c.share.ensures.rest ∙ idle.agree.count);
+      samplers = idle.fit.samplers ∙ sym (ap (λ (r : RowPool). r.count) c.share.ensures.rest ∙ idle.agree.count);
       all_in = subst AreAllIn (sym roomy) idle.all_in;
       shared = (_, c.in_ok-share.ensures.shared);
     }

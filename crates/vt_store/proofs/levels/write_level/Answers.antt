@@ -1,6 +1,6 @@
 use Rattle.std.proofs.Common.{◌≡◌, ℕ, ◌+◌, ◌*◌, ◌<◌, inl, inr, length, min, refl, sym, ap, ◌∙◌, arith}
 use Rattle.std.proofs.lemmas.List.{length-take-le}
-use Rattle.vt_outside.proofs.Untold.{OnErr-all}
+use Rattle.vt_outside.proofs.UnknownContents.{OnErr-all}
 use Rattle.vt_outside.specs.declared.answers.OutsideError.TheVariants.{Failed}
 use Rattle.vt_outside.proofs.Refusing.{none_made, no_value, no_fewer}
 use Rattle.vt_pages.specs.Pages.{pages_below, columns_at, rows_at}

@@ -1,5 +1,5 @@
 use Rattle.std.proofs.Common.{◌≡◌, ℕ, ◌+◌, ◌*◌, ◌≤◌, inr, refl, sym, ap, ◌∙◌, subst, arith}
-use Rattle.vt_outside.proofs.Untold.{OnErr-all}
+use Rattle.vt_outside.proofs.UnknownContents.{OnErr-all}
 use Rattle.vt_outside.specs.declared.answers.OutsideError.TheVariants.{Failed}
 use Rattle.vt_mip.proofs.Words.{first_level}
 use Rattle.vt_pages.specs.Pages.{columns_at, levels_of, pages_below, pages_of}

@@ -1,5 +1,5 @@
 use Rattle.std.proofs.Common.{inr, subst}
-use Rattle.vt_store.specs.Steps.{Adds}
+use Rattle.vt_store.specs.Steps.{AddsBytes}
 use Rattle.vt_store.specs.StripSteps.{ReadsStrip, strips_state}
 use Rattle.vt_store.proofs.OneStep.{step_not_added, step_not_made}
 use Rattle.vt_store.proofs.StripSteps.{read_of, there_after}
@@ -21,7 +21,7 @@ returns-in_err-added-clause-step g c =
     let a = strips_state g.F.File c.args.chain.now c.args.half.now in
     let b = strips_state g.F.File both.new.chain both.new.half in
     step_not_added _ _ _ c.args.name.now c.args.tiles.now f h m k c.from_residual.result _ c.from_residual.ensures.1
-    (subst (λ r. Adds c.args.name.now c.args.tiles.now f h m k r) c.in_err-added.was both.ensures.added)
+    (subst (λ r. AddsBytes c.args.name.now c.args.tiles.now f h m k r) c.in_err-added.was both.ensures.added)
     (read_of c.args.geometry.now c.args.strip a b both.new.rows both.result.0 both.ensures.read)
 
 pub returns-in_err-read-clause-step : goal.returns-in_err-read-clause-step
@@ -35,7 +35,7 @@ returns-in_err-read-clause-step g c =
     let b = strips_state g.F.File both.new.chain both.new.half in
     let lost = subst (λ r. ReadsStrip c.args.geometry.now c.args.strip a b both.new.rows r) c.in_err-read.was both.ensures.read in
     step_not_made _ _ _ c.args.name.now c.args.tiles.now f h m k c.from_residual-in_err-read.result c.from_residual-in_err-read.ensures.1
-    (subst (λ r. Adds c.args.name.now c.args.tiles.now f h m k r) c.in_ok-added.was both.ensures.added) (inr (inr lost.read)) lost.rose
+    (subst (λ r. AddsBytes c.args.name.now c.args.tiles.now f h m k r) c.in_ok-added.was both.ensures.added) (inr (inr lost.read)) lost.rose
 
 pub finish_strip-requires-clause-there : goal.finish_strip-requires-clause-there
 finish_strip-requires-clause-there g c κs within =
@@ -55,7 +55,7 @@ returns-clause-step g c =
     let a = strips_state g.F.File c.args.chain.now c.args.half.now in
     let b = strips_state g.F.File both.new.chain both.new.half in
     record {
-      added = subst (λ r. Adds c.args.name.now c.args.tiles.now f h m k r) c.in_ok-added.was both.ensures.added;
+      added = subst (λ r. AddsBytes c.args.name.now c.args.tiles.now f h m k r) c.in_ok-added.was both.ensures.added;
       made = c.finish_strip.ensures.made a c.requires.next both.ensures.kept
           (subst (λ r. ReadsStrip c.args.geometry.now c.args.strip a b both.new.rows r) c.in_ok-read.was both.ensures.read);
     }

@@ -109,10 +109,10 @@ returns g c = record {
       let count : ℕ = strip_rows h s.tile c.args.strip in
       record {
         read = was.read;
-        tiles = strip_made a.told s h c.args.strip y count c.tile_columns-columns.result c.depth-depth.result c.args.rows.now c.halve_and_cut.new.tiles mine
+        tiles = strip_made a.known s h c.args.strip y count c.tile_columns-columns.result c.depth-depth.result c.args.rows.now c.halve_and_cut.new.tiles mine
             deep was.texture was.rows c.halve_and_cut.ensures.tiles;
         halves = λ b e before. c.halve_and_cut.ensures.halves (texture_of h b) (was.halves (texture_of h b) before)
-            (strip_piece a.told s h c.args.strip y count c.tile_columns-columns.result c.args.half.now.taken c.args.rows.now mine c.requires.there.taken
+            (strip_piece a.known s h c.args.strip y count c.tile_columns-columns.result c.args.half.now.taken c.args.rows.now mine c.requires.there.taken
             was.texture was.rows b e);
         taken = c.halve_and_cut.ensures.taken ∙ ap (λ (n : ℕ). n + c.min-count.result) was.taken
             ∙ ap (λ (n : ℕ). a.half.taken + n) (is.counts ∙ ap (λ (x : Header). strip_rows x s.tile c.args.strip) kept.header);

@@ -3,7 +3,7 @@ use Rattle.vt_pages.specs.Pages.{columns_at}
 use Rattle.vt_store.proofs.OneStep.{is_lost}
 use Rattle.vt_store.proofs.StripLevels.{strip_low}
 use Rattle.vt_store.proofs.StripTiles.{is_strip}
-use Rattle.vt_store.proofs.StripSteps.{asked_at, rows_told}
+use Rattle.vt_store.proofs.StripSteps.{asked_at, rows_of_known}
 use Rattle.vt_store.proofs.strip.read_strip.Goals as goal
 
 pub overflow_mul-y : goal.overflow_mul-y
@@ -48,7 +48,7 @@ returns-clause-read g c =
       read = asked_at h c.args.geometry.now.tile c.args.strip (c.args.strip * c.tile-side.result) c.min-count.result false
           (g.F.File.asked c.args.chain.now.file) (g.F.File.asked c.read_rows.new.chain.file) is.place is.counts c.in_ok-read_rows.ensures.asked;
       texture = c.read_rows.ensures.texture;
-      rows = rows_told (g.F.File.bytes c.args.chain.now.file) h c.args.geometry.now.tile c.args.strip (c.args.strip * c.tile-side.result)
+      rows = rows_of_known (g.F.File.bytes c.args.chain.now.file) h c.args.geometry.now.tile c.args.strip (c.args.strip * c.tile-side.result)
           c.min-count.result c.read_rows.new.rows is.place is.counts c.in_ok-read_rows.ensures.rows;
       halves = c.read_rows.ensures.halves;
       taken = c.read_rows.ensures.taken;
@@ -72,7 +72,7 @@ returns-in_err-read_rows-clause-read g c =
 
 pub returns-clause-kept : goal.returns-clause-kept
 returns-clause-kept g c = record {
-  told = c.read_rows.ensures.bytes;
+  known = c.read_rows.ensures.bytes;
   called = c.read_rows.ensures.name;
   header = c.read_rows.ensures.header;
   tile = c.read_rows.ensures.tile;
@@ -81,7 +81,7 @@ returns-clause-kept g c = record {
 
 pub returns-in_err-read_rows-clause-kept : goal.returns-in_err-read_rows-clause-kept
 returns-in_err-read_rows-clause-kept g c = record {
-  told = c.read_rows.ensures.bytes;
+  known = c.read_rows.ensures.bytes;
   called = c.read_rows.ensures.name;
   header = c.read_rows.ensures.header;
   tile = c.read_rows.ensures.tile;

@@ -1,5 +1,5 @@
 use Rattle.std.proofs.Common.{◌≡◌, ℕ, ◌*◌, inl, inr, List, Some, refl, sym, ◌∙◌, arith}
-use Rattle.vt_outside.proofs.Untold.{OnErr-all}
+use Rattle.vt_outside.proofs.UnknownContents.{OnErr-all}
 use Rattle.vt_outside.proofs.Refusing.{none_made, no_fewer}
 use Rattle.vt_ppm.specs.StripPlaces.{strips_of}
 use Rattle.vt_ppm.specs.Strips.{texture_of}
@@ -99,7 +99,7 @@ pub returns-in_err-write_first_level-clause-front_read : goal.returns-in_err-wri
 returns-in_err-write_first_level-clause-front_read g c = OnErr-all _ _ c.in_err-write_first_level.ensures.level.front_read
 
 pub returns-in_err-write_first_level-clause-bytes : goal.returns-in_err-write_first_level-clause-bytes
-returns-in_err-write_first_level-clause-bytes g c = c.write_first_level.ensures.kept.told
+returns-in_err-write_first_level-clause-bytes g c = c.write_first_level.ensures.kept.known
 
 pub returns-in_err-write_first_level-clause-name : goal.returns-in_err-write_first_level-clause-name
 returns-in_err-write_first_level-clause-name g c = c.write_first_level.ensures.kept.called
@@ -131,24 +131,24 @@ pub returns-in_err-write_levels-clause-part : goal.returns-in_err-write_levels-c
 returns-in_err-write_levels-clause-part g c =
     let begun = made_begun (g.F.File.bytes c.args.chain.now.file) c.args.geometry.now c.args.chain.now.header c.depth.result c.args.name.now
     (g.D.Folder.files c.args.folder.now) (g.D.Folder.files c.begin_store.new.folder) c.depth.ensures.value c.in_ok-begin_store.ensures.whole in
-    let told = g.F.File.bytes c.args.chain.now.file in
+    let known = g.F.File.bytes c.args.chain.now.file in
     let s = c.args.geometry.now in
     let h = c.args.chain.now.header in
     let p = c.finish.result in
     let are = are_strips s c.args.chain.now c.requires.shape in
-    let held : HoldsMade told (strip_front s h (pages_below s 1)) c.args.name.now (g.D.Folder.files c.args.folder.now)
+    let held : HoldsMade known (strip_front s h (pages_below s 1)) c.args.name.now (g.D.Folder.files c.args.folder.now)
     (g.D.Folder.files c.write_first_level.new.folder) =
-    made_moved told s h c.args.name.now (g.D.Folder.files c.args.folder.now) (g.D.Folder.files c.write_first_level.new.folder)
+    made_moved known s h c.args.name.now (g.D.Folder.files c.args.folder.now) (g.D.Folder.files c.write_first_level.new.folder)
     (rows_at s 0 * columns_at s 0) (pages_below s 1) (sym (first_pages s))
     (c.in_ok-write_first_level.ensures.level.whole (g.D.Folder.files c.args.folder.now) begun) in
-    let halves : (b : List ℕ) → told ≡ Some b → HalvesFront (texture_of h b) c.write_first_level.new.half = λ b e.
+    let halves : (b : List ℕ) → known ≡ Some b → HalvesFront (texture_of h b) c.write_first_level.new.half = λ b e.
     c.in_ok-write_first_level.ensures.level.halves b e (c.requires.room.begun (texture_of h b) refl are.width are.height) in
-    let level = level_made told h c.write_first_level.new.half p c.depth.ensures.texture halves c.finish.ensures.half c.finish.ensures.lawful in
-    let same = λ (b : List ℕ) (e : told ≡ Some b). rest_tiles s h b p c.requires.room.limits are.width are.height (level b e) in
+    let level = level_made known h c.write_first_level.new.half p c.depth.ensures.texture halves c.finish.ensures.half c.finish.ensures.lawful in
+    let same = λ (b : List ℕ) (e : known ≡ Some b). rest_tiles s h b p c.requires.room.limits are.width are.height (level b e) in
     let inside = first_inside s c.requires.room.limits.some_level in
-    OnErr-all _ _ (inr (front_seen told c.args.chain.now s c.args.name.now (g.D.Folder.files c.args.folder.now)
+    OnErr-all _ _ (inr (front_seen known c.args.chain.now s c.args.name.now (g.D.Folder.files c.args.folder.now)
     (g.D.Folder.files c.write_levels.new.folder) c.requires.shape
-    (made_rest_part told s h p.depth (pages_below s 1) (level_source (record { base = p; tile = s.tile }) 1) c.args.name.now
+    (made_rest_part known s h p.depth (pages_below s 1) (level_source (record { base = p; tile = s.tile }) 1) c.args.name.now
     (g.D.Folder.files c.args.folder.now) (g.D.Folder.files c.write_first_level.new.folder) (g.D.Folder.files c.write_levels.new.folder) inside held same
     c.in_err-write_levels.ensures.part)))
 
@@ -173,7 +173,7 @@ returns-in_err-write_levels-clause-front_read g c =
     (g.F.File.asked c.args.chain.now.file) (g.F.File.asked c.write_first_level.new.chain.file) (omega arith) c.in_ok-write_first_level.ensures.level.all_read)
 
 pub returns-in_err-write_levels-clause-bytes : goal.returns-in_err-write_levels-clause-bytes
-returns-in_err-write_levels-clause-bytes g c = c.write_first_level.ensures.kept.told
+returns-in_err-write_levels-clause-bytes g c = c.write_first_level.ensures.kept.known
 
 pub returns-in_err-write_levels-clause-name : goal.returns-in_err-write_levels-clause-name
 returns-in_err-write_levels-clause-name g c = c.write_first_level.ensures.kept.called
@@ -200,23 +200,23 @@ pub returns-clause-whole : goal.returns-clause-whole
 returns-clause-whole g c =
     let begun = made_begun (g.F.File.bytes c.args.chain.now.file) c.args.geometry.now c.args.chain.now.header c.depth.result c.args.name.now
     (g.D.Folder.files c.args.folder.now) (g.D.Folder.files c.begin_store.new.folder) c.depth.ensures.value c.in_ok-begin_store.ensures.whole in
-    let told = g.F.File.bytes c.args.chain.now.file in
+    let known = g.F.File.bytes c.args.chain.now.file in
     let s = c.args.geometry.now in
     let h = c.args.chain.now.header in
     let p = c.finish.result in
     let are = are_strips s c.args.chain.now c.requires.shape in
-    let held : HoldsMade told (strip_front s h (pages_below s 1)) c.args.name.now (g.D.Folder.files c.args.folder.now)
+    let held : HoldsMade known (strip_front s h (pages_below s 1)) c.args.name.now (g.D.Folder.files c.args.folder.now)
     (g.D.Folder.files c.write_first_level.new.folder) =
-    made_moved told s h c.args.name.now (g.D.Folder.files c.args.folder.now) (g.D.Folder.files c.write_first_level.new.folder)
+    made_moved known s h c.args.name.now (g.D.Folder.files c.args.folder.now) (g.D.Folder.files c.write_first_level.new.folder)
     (rows_at s 0 * columns_at s 0) (pages_below s 1) (sym (first_pages s))
     (c.in_ok-write_first_level.ensures.level.whole (g.D.Folder.files c.args.folder.now) begun) in
-    let halves : (b : List ℕ) → told ≡ Some b → HalvesFront (texture_of h b) c.write_first_level.new.half = λ b e.
+    let halves : (b : List ℕ) → known ≡ Some b → HalvesFront (texture_of h b) c.write_first_level.new.half = λ b e.
     c.in_ok-write_first_level.ensures.level.halves b e (c.requires.room.begun (texture_of h b) refl are.width are.height) in
-    let level = level_made told h c.write_first_level.new.half p c.depth.ensures.texture halves c.finish.ensures.half c.finish.ensures.lawful in
-    let same = λ (b : List ℕ) (e : told ≡ Some b). rest_tiles s h b p c.requires.room.limits are.width are.height (level b e) in
+    let level = level_made known h c.write_first_level.new.half p c.depth.ensures.texture halves c.finish.ensures.half c.finish.ensures.lawful in
+    let same = λ (b : List ℕ) (e : known ≡ Some b). rest_tiles s h b p c.requires.room.limits are.width are.height (level b e) in
     let inside = first_inside s c.requires.room.limits.some_level in
-    store_seen told c.args.chain.now s c.args.name.now (g.D.Folder.files c.args.folder.now) (g.D.Folder.files c.write_levels.new.folder) c.requires.shape
-    (made_whole told s h p.depth (pages_below s 1) (level_source (record { base = p; tile = s.tile }) 1) c.args.name.now
+    store_seen known c.args.chain.now s c.args.name.now (g.D.Folder.files c.args.folder.now) (g.D.Folder.files c.write_levels.new.folder) c.requires.shape
+    (made_whole known s h p.depth (pages_below s 1) (level_source (record { base = p; tile = s.tile }) 1) c.args.name.now
     (g.D.Folder.files c.args.folder.now) (g.D.Folder.files c.write_first_level.new.folder) (g.D.Folder.files c.write_levels.new.folder) inside held
     c.in_ok-write_levels.ensures.whole same)
 
@@ -236,7 +236,7 @@ pub returns-clause-failed : goal.returns-clause-failed
 returns-clause-failed g c = λ failed. let no : ⊥ = cc in absurd no
 
 pub returns-clause-bytes : goal.returns-clause-bytes
-returns-clause-bytes g c = c.write_first_level.ensures.kept.told
+returns-clause-bytes g c = c.write_first_level.ensures.kept.known
 
 pub returns-clause-name : goal.returns-clause-name
 returns-clause-name g c = c.write_first_level.ensures.kept.called

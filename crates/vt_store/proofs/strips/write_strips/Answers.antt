@@ -2,7 +2,7 @@ use Rattle.std.proofs.Common.{◌≡◌, ℕ, ◌⊎◌, inl, List, Option, refl
 use Rattle.std.specs.Prelude.{OnOk, OnErr}
 use Rattle.vt_outside.specs.Counts.{Rose}
 use Rattle.vt_outside.specs.declared.place.Place.{Place}
-use Rattle.vt_outside.proofs.Untold.{OnErr-all}
+use Rattle.vt_outside.proofs.UnknownContents.{OnErr-all}
 use Rattle.vt_outside.proofs.Refusing.{none_made, no_fewer}
 use Rattle.vt_ppm.specs.declared.header.Header.{Header}
 use Rattle.vt_ppm.specs.Strips.{texture_of}
@@ -103,13 +103,13 @@ returns-in_err-room-clause-faults g c = no_fewer _ _ refl
 
 pub returns-clause-whole : goal.returns-clause-whole
 returns-clause-whole g c =
-    seen_at (λ (told : Option (List ℕ)) (h : Header) (side : ℕ). OnOk c.write_in_room.result (HoldsMade told (λ b. texture_store (texture_of h b) side)
+    seen_at (λ (known : Option (List ℕ)) (h : Header) (side : ℕ). OnOk c.write_in_room.result (HoldsMade known (λ b. texture_store (texture_of h b) side)
     c.args.name.now (g.D.Folder.files c.args.folder.now) (g.D.Folder.files c.write_in_room.new.folder))) c.reserve.ensures.bytes c.reserve.ensures.header c.reserve.ensures.tile c.write_in_room.ensures.whole
 
 pub returns-clause-part : goal.returns-clause-part
 returns-clause-part g c =
-    seen_at (λ (told : Option (List ℕ)) (h : Header) (side : ℕ). OnErr c.write_in_room.result
-    ((g.D.Folder.files c.write_in_room.new.folder ≡ g.D.Folder.files c.args.folder.now) ⊎ HoldsMadeFront told (λ b. texture_store (texture_of h b) side)
+    seen_at (λ (known : Option (List ℕ)) (h : Header) (side : ℕ). OnErr c.write_in_room.result
+    ((g.D.Folder.files c.write_in_room.new.folder ≡ g.D.Folder.files c.args.folder.now) ⊎ HoldsMadeFront known (λ b. texture_store (texture_of h b) side)
     c.args.name.now (g.D.Folder.files c.args.folder.now) (g.D.Folder.files c.write_in_room.new.folder))) c.reserve.ensures.bytes c.reserve.ensures.header c.reserve.ensures.tile c.write_in_room.ensures.part
 
 pub returns-clause-all_read : goal.returns-clause-all_read

@@ -3,7 +3,7 @@ use Rattle.vt_store.proofs.LevelRows.{passed_on}
 use Rattle.vt_store.proofs.WideStores.{no_less}
 use Rattle.std.proofs.Common.{◌∙◌, inr, arith}
 use Rattle.std.proofs.lemmas.Result.{on_ok_weaker, on_err_weaker}
-use Rattle.vt_outside.proofs.Untold.{OnErr-all}
+use Rattle.vt_outside.proofs.UnknownContents.{OnErr-all}
 use Rattle.vt_outside.proofs.Refusing.{none_made}
 use Rattle.vt_mip.specs.Chains.{chain_texel}
 use Rattle.vt_store.proofs.AddedPages.{whole_store, part_store}

@@ -1,4 +1,4 @@
-use Rattle.vt_outside.proofs.Untold.{OnErr-all}
+use Rattle.vt_outside.proofs.UnknownContents.{OnErr-all}
 use Rattle.vt_outside.proofs.Refusing.{none_made}
 use Rattle.vt_store.proofs.LevelChain.{refused_by}
 use Rattle.vt_tiles.proofs.Refusing.{by_outside}

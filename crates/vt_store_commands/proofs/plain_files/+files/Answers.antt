@@ -1,5 +1,5 @@
 use Rattle.std.proofs.Common.{ℕ, ◌+◌, ◌-◌, ◌*◌, List, ◌++◌, length, ap, ap₂, sym, ◌∙◌, arith}
-use Rattle.vt_store_commands.specs.PlainFiles.{file_of}
+use Rattle.vt_store_commands.specs.PlainFiles.{picture_file_of}
 use Rattle.vt_store_commands.proofs.PlainFiles.{between_split, upper_room, lower_room}
 use Rattle.vt_store_commands.proofs.plain_files.+files.Goals as goal
 
@@ -24,4 +24,4 @@ draw_files-returns g t c =
     let first = c.args.first in
     let middle = c.args.first + c.files_for.result in
     ap₂ (λ (a b : List ℕ). a ++ b) c.draw_both.ensures.front c.draw_both.ensures.back
-    ∙ sym (between_split (file_of c.args.pictures.now) first middle c.args.end (omega arith) (omega (arith, c.files_for.ensures, c.requires.order)))
+    ∙ sym (between_split (picture_file_of c.args.pictures.now) first middle c.args.end (omega arith) (omega (arith, c.files_for.ensures, c.requires.order)))

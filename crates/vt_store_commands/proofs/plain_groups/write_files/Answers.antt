@@ -4,7 +4,7 @@ use Rattle.vt_plain_bilinear.specs.Names.{picture_name}
 use Rattle.vt_outside.specs.Effects.{folder_state, folder_effect}
 use Rattle.vt_outside.proofs.Writing.{written_as}
 use Rattle.vt_plain_bilinear.proofs.WrittenPictures.{HasPictures, more_pictures, stopped_pictures}
-use Rattle.vt_store_commands.specs.PlainFiles.{file_of, file_size}
+use Rattle.vt_store_commands.specs.PlainFiles.{picture_file_of, file_size}
 use Rattle.vt_store_commands.proofs.PlainFiles.{length-file, piece_is, held_parts, file_within}
 use Rattle.vt_store_commands.proofs.plain_groups.write_files.Goals as goal
 
@@ -18,12 +18,12 @@ loop-picture-preserved g c = λ before was.
     let picture = c.loop-picture.picture in
     let at = size * (picture - c.args.first) in
     let name = picture_name c.args.prefix.now picture in
-    let each : (i : ℕ) → length (file_of p i) ≡ size = λ i. length-file p c.requires.space.has i ∙ sym c.file_size-size.ensures.value in
-    let piece = piece_is (file_of p) size each c.args.first picture c.args.end (at + size - at) c.args.room.now _ (omega arith) (omega arith) (omega arith)
+    let each : (i : ℕ) → length (picture_file_of p i) ≡ size = λ i. length-file p c.requires.space.has i ∙ sym c.file_size-size.ensures.value in
+    let piece = piece_is (picture_file_of p) size each c.args.first picture c.args.end (at + size - at) c.args.room.now _ (omega arith) (omega arith) (omega arith)
     (held_parts p c.args.first c.args.end c.args.room.now c.requires) in
-    more_pictures c.args.prefix.now (file_of p) picture before (folder_state g.D.Folder c.loop-picture.folder)
+    more_pictures c.args.prefix.now (picture_file_of p) picture before (folder_state g.D.Folder c.loop-picture.folder)
     (folder_state g.D.Folder c.write_named.new.folder) (c.loop-picture.invariant before was)
-    (written_as name _ name (file_of p picture) (folder_effect g.D.Folder c.loop-picture.folder c.write_named.new.folder) (Ok tt) refl piece
+    (written_as name _ name (picture_file_of p picture) (folder_effect g.D.Folder c.loop-picture.folder c.write_named.new.folder) (Ok tt) refl piece
     c.in_ok-write_named.ensures)
 
 pub slice_bounds-write_named-end : goal.slice_bounds-write_named-end
@@ -43,18 +43,18 @@ returns-in_err-write_named g c = λ before was.
     let picture = c.loop-picture.picture in
     let at = size * (picture - c.args.first) in
     let name = picture_name c.args.prefix.now picture in
-    let each : (i : ℕ) → length (file_of p i) ≡ size = λ i. length-file p c.requires.space.has i ∙ sym c.file_size-size.ensures.value in
-    let piece = piece_is (file_of p) size each c.args.first picture c.args.end (at + size - at) c.args.room.now _ (omega arith) (omega arith) (omega arith)
+    let each : (i : ℕ) → length (picture_file_of p i) ≡ size = λ i. length-file p c.requires.space.has i ∙ sym c.file_size-size.ensures.value in
+    let piece = piece_is (picture_file_of p) size each c.args.first picture c.args.end (at + size - at) c.args.room.now _ (omega arith) (omega arith) (omega arith)
     (held_parts p c.args.first c.args.end c.args.room.now c.requires) in
-    rw (q.1, q.2) (stopped_pictures c.args.prefix.now (file_of p) picture (length p.path.now.cameras) before (folder_state g.D.Folder c.loop-picture.folder)
+    rw (q.1, q.2) (stopped_pictures c.args.prefix.now (picture_file_of p) picture (length p.path.now.cameras) before (folder_state g.D.Folder c.loop-picture.folder)
     (folder_state g.D.Folder c.write_named.new.folder) c.in_err-write_named.field-0.0 (omega (arith, c.requires.space.few, c.loop-picture-test.true))
     (c.loop-picture.invariant before was)
-    (written_as name _ name (file_of p picture) (folder_effect g.D.Folder c.loop-picture.folder c.write_named.new.folder)
+    (written_as name _ name (picture_file_of p picture) (folder_effect g.D.Folder c.loop-picture.folder c.write_named.new.folder)
     (Err c.in_err-write_named.field-0.0) refl piece c.in_err-write_named.ensures))
 
 pub returns : goal.returns
 returns g c = λ before was.
     let p = c.args.pictures.now in
     let last : c.loop-picture.picture ≡ c.args.end = omega (arith, c.requires.space.order, c.loop-picture-test.false) in
-    let h = subst (λ (n : ℕ). HasPictures c.args.prefix.now (file_of p) n before (folder_state g.D.Folder c.loop-picture.folder)) last
+    let h = subst (λ (n : ℕ). HasPictures c.args.prefix.now (picture_file_of p) n before (folder_state g.D.Folder c.loop-picture.folder)) last
     (c.loop-picture.invariant before was) in (h.asks, h.files)

@@ -3,14 +3,14 @@ use Rattle.std.specs.Prelude.{vec_len}
 use Rattle.std.proofs.lemmas.List.{with_items_is}
 use Rattle.std.proofs.lemmas.Result.{err_from_is_err_and}
 use Rattle.vt_outside.specs.Effects.{folder_state}
-use Rattle.vt_store_commands.specs.PlainFiles.{HoldsFiles, HasRoom}
+use Rattle.vt_store_commands.specs.PlainFiles.{HoldsFiles, HaveRoomFor}
 use Rattle.vt_store_commands.proofs.PlainGroups.{next_room, begun, gone_on, all_written}
 use Rattle.vt_store_commands.proofs.plain_groups.write_groups.Goals as goal
 
 pub draw_front-requires-after_bounds : goal.draw_front-requires-after_bounds
 draw_front-requires-after_bounds g c κs within =
     let p = c.args.pictures.now in
-    subst (λ (n : ℕ). HasRoom p 0 c.group_end-middle.result n) (sym c.as_mut_slice.ensures.len)
+    subst (λ (n : ℕ). HaveRoomFor p 0 c.group_end-middle.result n) (sym c.as_mut_slice.ensures.len)
     (next_room p 0 c.group_end-middle.result c.args.group (vec_len c.args.front.now) c.requires.has (omega arith)
     (omega (arith, c.group_end-middle.ensures.inside, c.pictures-all.ensures.value)) c.group_end-middle.ensures.few c.requires.front)
 

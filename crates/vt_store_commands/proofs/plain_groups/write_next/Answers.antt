@@ -1,6 +1,6 @@
 use Rattle.std.proofs.Common.{ℕ, List, sym, subst, ◌∙◌}
 use Rattle.std.proofs.lemmas.List.{with_items_is}
-use Rattle.vt_store_commands.specs.PlainFiles.{HoldsFiles, HasRoom}
+use Rattle.vt_store_commands.specs.PlainFiles.{HoldsFiles, HaveRoomFor}
 use Rattle.vt_store_commands.proofs.plain_groups.write_next.Goals as goal
 
 pub write_then_draw-requires-clause-holds : goal.write_then_draw-requires-clause-holds
@@ -9,7 +9,7 @@ write_then_draw-requires-clause-holds g c κs within =
 
 pub write_then_draw-requires-clause-next : goal.write_then_draw-requires-clause-next
 write_then_draw-requires-clause-next g c κs within =
-    subst (λ (n : ℕ). HasRoom c.args.pictures.now c.args.middle c.args.end n) (sym c.as_mut_slice.ensures.len) c.requires.next
+    subst (λ (n : ℕ). HaveRoomFor c.args.pictures.now c.args.middle c.args.end n) (sym c.as_mut_slice.ensures.len) c.requires.next
 
 pub returns-then-is_in_turn-clause-drawn : goal.returns-then-is_in_turn-clause-drawn
 returns-then-is_in_turn-clause-drawn g c =

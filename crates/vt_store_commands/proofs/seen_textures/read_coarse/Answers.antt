@@ -40,8 +40,8 @@ returns-clause-sees g c =
       took = coarse_took c.args.name.now h before opened after old new o closed c.seen_in-seen.ensures.name c.in_ok-reader.ensures.sides
           c.in_ok-seen.ensures.read;
       enough = enough_of old.bytes h c.args.tile c.args.path.now s (tile_some c.args.tile c.requires.tile) o.limits c.in_ok-seen.ensures.seen c.requires.wants;
-      files = λ told picture inside.
-          let there = texture_there c.args.name.now h old (record { before = before; after = opened }) o told in
+      files = λ known picture inside.
+          let there = texture_there c.args.name.now h old (record { before = before; after = opened }) o known in
           let is : unwrap_or old.bytes [] ≡ there.0 = ap (λ t. unwrap_or t []) there.1 in
           rw is (files_of there.0 old.bytes h c.args.tile c.args.path.now s picture there.1 there.3 c.in_ok-seen.ensures.seen inside c.requires.wants);
     }

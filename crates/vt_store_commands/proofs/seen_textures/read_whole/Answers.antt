@@ -21,6 +21,6 @@ returns-clause-sees g c =
         sides = inl (refl, sym c.width-width.ensures.value, sym c.height-height.ensures.value);
         none = λ picture y inside low. omega arith;
       };
-      files = λ told picture inside. whole_file c.args.filter s c.args.tile c.args.path.now picture refl (sym c.width-width.ensures.value)
+      files = λ known picture inside. whole_file c.args.filter s c.args.tile c.args.path.now picture refl (sym c.width-width.ensures.value)
           (sym c.height-height.ensures.value);
     }

@@ -1,7 +1,7 @@
 use Rattle.std.proofs.Common.{arith, ◌≡◌, ◌-◌, ◌<◌, ◌≤◌, ℕ, List, Some, length, slice_get, sym, ap, ◌∙◌}
 use Rattle.vt_table.specs.JournalTypes.changes.Change.{Change}
 use Rattle.vt_streamer.specs.declared.latest.Latest.{Latest}
-use Rattle.vt_streamer.specs.Banks.{IsInside}
+use Rattle.vt_streamer.specs.Banks.{IsChangeInside}
 use Rattle.vt_streamer.specs.Latests.{AreLatest}
 use Rattle.vt_streamer.proofs.Leading.{lead_step, entered_more, may_still}
 use Rattle.vt_streamer.proofs.banks.lead_on.Goals as goal
@@ -21,7 +21,7 @@ advance-requires-clause-inside c = c.requires.inside c.loop-made.made _
 pub loop-made-preserved : goal.loop-made-preserved
 loop-made-preserved c = let view = c.advance.ensures.view in let inv = c.loop-made.invariant in
     let here = made_by c.args.writer.now.view.journal c.args.latest.now c.args.version c.loop-made.made _ c.requires.version c.loop-made-test.true c.requires.latest c.change_back.ensures in
-    let one : IsInside c.args.words.now.sizes c.change_back.result = c.requires.inside c.loop-made.made _ here in record {
+    let one : IsChangeInside c.args.words.now.sizes c.change_back.result = c.requires.inside c.loop-made.made _ here in record {
       begun = omega (arith, inv.begun);
       of = c.advance.ensures.of;
       sound = c.advance.ensures.sound;

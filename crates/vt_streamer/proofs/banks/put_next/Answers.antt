@@ -3,7 +3,7 @@ use Rattle.vt_table.specs.Changes.{newest, changed}
 use Rattle.vt_grace.specs.declared.sizes.Sizes.{Sizes}
 use Rattle.vt_grace.specs.WriterViews.{version_of}
 use Rattle.vt_grace.specs.Places.{bank_of}
-use Rattle.vt_grace.specs.Banks.{Stands}
+use Rattle.vt_grace.specs.Banks.{StandsForTable}
 use Rattle.vt_streamer.proofs.Leading.{lead_any, asked_for, entered_more, rotated_next, published_by}
 use Rattle.vt_streamer.proofs.banks.put_next.Goals as goal
 
@@ -24,7 +24,7 @@ returns-clause-rotated c = let led = c.lead_on.ensures in let step = c.advance.e
     rotated_next c.args.writer.now.view c.advance.new.writer.view _ c.args.change
     (entered_more _ _ _ _ _ led.entered step.view (let page = inside.page_inside in let count = ap (λ z. z.pages) led.of.sizes in omega arith))
     c.publish.ensures.view c.requires.rotated
-    (subst (λ (x : Sizes). Stands x c.advance.new.writer.view.entries (changed (newest js) c.args.change) (bank_of (version_of c.args.writer.now.view + 1)))
+    (subst (λ (x : Sizes). StandsForTable x c.advance.new.writer.view.entries (changed (newest js) c.args.change) (bank_of (version_of c.args.writer.now.view + 1)))
     (sym z) stands)
 
 pub returns-clause-published : goal.returns-clause-published

@@ -10,10 +10,10 @@ pub returns-in-Some-clause-looked : goal.returns-in-Some-clause-looked
 returns-in-Some-clause-looked c = looked_on _ _ _ c.loop-sampler.invariant.looked c.reach.ensures.looked
 
 pub returns-in-Some-clause-waiting : goal.returns-in-Some-clause-waiting
-returns-in-Some-clause-waiting c = let told = c.in-Some.ensures.waiting in let inv = c.loop-sampler.invariant in
+returns-in-Some-clause-waiting c = let cause = c.in-Some.ensures.waiting in let inv = c.loop-sampler.invariant in
     let count = ap (λ z. z.samplers) c.requires.of.sizes in let all = c.requires.samplers in let low = c.loop-sampler-test.true in
-    subst (λ (k : ℕ). IsFirstBehind c.args.writer.now.view c.reach.new.writer.view c.args.least k c.in-Some.waiting.holds) (sym told.0)
-    (first_behind _ _ _ _ _ _ inv.looked c.reach.ensures.looked (omega arith) inv.reached told.1)
+    subst (λ (k : ℕ). IsFirstBehind c.args.writer.now.view c.reach.new.writer.view c.args.least k c.in-Some.waiting.holds) (sym cause.0)
+    (first_behind _ _ _ _ _ _ inv.looked c.reach.ensures.looked (omega arith) inv.reached cause.1)
 
 pub loop-sampler-preserved : goal.loop-sampler-preserved
 loop-sampler-preserved c = let inv = c.loop-sampler.invariant in record {

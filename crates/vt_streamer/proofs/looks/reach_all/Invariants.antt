@@ -2,7 +2,7 @@ use Rattle.std.proofs.Common.{◌≡◌, ◌<◌, ◌≤◌, ℕ}
 use Rattle.vt_grace.specs.WriterViews.{floor_of}
 use Rattle.vt_grace.specs.Sound.{IsSound}
 use Rattle.vt_grace.specs.Tokens.{IsWriterOf}
-use Rattle.vt_streamer.specs.Looks.{HasLooked}
+use Rattle.vt_streamer.specs.Looks.{HasOnlyLooked}
 use Rattle.vt_streamer.proofs.looks.reach_all.Given as goal
 
 abbrev pub invariant-loop-sampler : goal.invariant-loop-sampler
@@ -10,6 +10,6 @@ invariant-loop-sampler l = record {
   of : IsWriterOf l.words l.writer;
   sound : IsSound l.writer.view;
   floors : l.floors ≡ l.writer.view.floors;
-  looked : HasLooked l.fn.writer.view l.writer.view;
+  looked : HasOnlyLooked l.fn.writer.view l.writer.view;
   reached : (k : ℕ) → k < l.sampler → l.least ≤ floor_of l.writer.view k;
 }

@@ -6,7 +6,7 @@ use Rattle.vt_journal.specs.declared.changes.Event.{Event}
 use Rattle.vt_journal.specs.declared.changes.Event.TheVariants.{Changed}
 use Rattle.vt_streamer.specs.TableViews.{IsTile}
 use Rattle.vt_streamer.specs.Fills.{words_in}
-use Rattle.vt_streamer.specs.Views.{table_of}
+use Rattle.vt_streamer.specs.Views.{streamer_table}
 use Rattle.vt_requests.specs.Outcomes.{victim_events}
 use Rattle.vt_requests.proofs.Entries.{still_unmapped, then_free}
 use Rattle.vt_streaming.specs.Made.{HasMade}
@@ -20,9 +20,9 @@ map_page-requires g c =
     record {
       of = did.of;
       page = subst (λ (s : Shape). e.page < pages_of s) (sym did.shape) r.entry.page_inside;
-      unmapped = still_unmapped (table_of v) (record (table_of v) { changes = w.writer.journal }) e [] _ r.entry (publishes v w.writer _ _ did.made);
+      unmapped = still_unmapped (streamer_table v) (record (streamer_table v) { changes = w.writer.journal }) e [] _ r.entry (publishes v w.writer _ _ did.made);
       frame = subst (λ (n : ℕ). e.frame < n) (sym (as_many_frames c.args.words.now v w r.of did.of)) r.entry.frame_inside;
-      free = then_free (table_of v) (record (table_of v) { changes = w.writer.journal }) e [] _ r.of.lawful r.entry (publishes v w.writer _ _ did.made);
+      free = then_free (streamer_table v) (record (streamer_table v) { changes = w.writer.journal }) e [] _ r.of.lawful r.entry (publishes v w.writer _ _ did.made);
       tile = subst (λ (s : Shape). IsTile s c.args.tile.now) (sym did.shape) r.tile;
       spare = (let a = r.spare in let b = did.spare in omega (arith, a, b));
     }

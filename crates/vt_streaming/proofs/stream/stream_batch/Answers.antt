@@ -2,7 +2,7 @@ use Rattle.std.proofs.Common.{◌≡◌, ◌+◌, ◌<◌, ◌∙◌, ap, sym, r
 use Rattle.vt_journal.specs.Shape.{Shape}
 use Rattle.vt_streamer.specs.TableViews.{IsTile}
 use Rattle.vt_queue.specs.declared.items.Loaded.{Loaded}
-use Rattle.vt_queue.specs.Queues.{view_of}
+use Rattle.vt_queue.specs.Queues.{queue_view_of}
 use Rattle.vt_requests.specs.TakenResults.{Streams, is_wanted}
 use Rattle.vt_streaming.proofs.Making.{as_many_frames}
 use Rattle.vt_streaming.proofs.Taking.{wanted_inside, wanted_new, wanted_tile, streams_none, streams_dropped, streams_kept}
@@ -11,7 +11,7 @@ use Rattle.vt_streaming.proofs.stream.stream_batch.Goals as goal
 
 pub loop-init : goal.loop-init
 loop-init g c =
-    let r = c.requires in let a = r.report in let view = view_of c.args.answers.now in
+    let r = c.requires in let a = r.report in let view = queue_view_of c.args.answers.now in
     record {
       of = r.streamer;
       answers = r.answers;
@@ -55,9 +55,9 @@ loop-preserved-then-is_wanted g c =
       spare = (let a = i.spare in let b = did.spare in omega (arith, a, b));
       events_room = (let a = i.events_room in let b = did.noted.events_room in omega (arith, a, b));
       results_room = (let a = i.results_room in let b = did.noted.results_room in omega (arith, a, b));
-      streams = subst (λ (z : List Bool × List Loaded). Streams all (view_of c.args.answers.now) (view_of c.take_result-loaded.new.answers) z.0 z.1)
+      streams = subst (λ (z : List Bool × List Loaded). Streams all (queue_view_of c.args.answers.now) (queue_view_of c.take_result-loaded.new.answers) z.0 z.1)
           (λ j. (sym did.noted.taken j, sym did.noted.results j))
-          (streams_kept all (view_of c.args.answers.now) (view_of c.loop.answers) (view_of c.take_result-loaded.new.answers) flags
+          (streams_kept all (queue_view_of c.args.answers.now) (queue_view_of c.loop.answers) (queue_view_of c.take_result-loaded.new.answers) flags
           c.loop.into.results.elements x i.streams took.takes inside new);
       under_way = under_way c.args.batch.now c.args.streamer.now c.requires.lawful c.loop.streamer c.stream_result.new.streamer c.args.into.now.events.elements
           c.loop.into c.stream_result.new.into x i.under_way i.streams.marked new inside count did.made did.shape
@@ -77,7 +77,7 @@ loop-preserved g c =
       spare = i.spare;
       events_room = i.events_room;
       results_room = i.results_room;
-      streams = streams_dropped (length c.args.batch.now) (view_of c.args.answers.now) (view_of c.loop.answers) (view_of c.take_result-loaded.new.answers)
+      streams = streams_dropped (length c.args.batch.now) (queue_view_of c.args.answers.now) (queue_view_of c.loop.answers) (queue_view_of c.take_result-loaded.new.answers)
           c.loop.into.taken.elements c.loop.into.results.elements c.take_result-loaded.result i.streams took.takes;
       under_way = i.under_way;
     }

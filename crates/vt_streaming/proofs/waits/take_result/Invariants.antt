@@ -1,10 +1,10 @@
 use Rattle.std.proofs.Common.{◌≡◌}
-use Rattle.vt_queue.specs.Queues.{view_of, splits_of, IsOf}
+use Rattle.vt_queue.specs.Queues.{queue_view_of, queue_splits_of, IsPassOfQueue}
 use Rattle.vt_streaming.proofs.waits.take_result.Given as goal
 
 abbrev pub invariant-loop : goal.invariant-loop
 invariant-loop g l = record {
-  of : IsOf l.results l.answers;
-  splits : splits_of l.answers ≡ splits_of l.initial.answers;
-  view : view_of l.answers ≡ view_of l.initial.answers;
+  of : IsPassOfQueue l.results l.answers;
+  splits : queue_splits_of l.answers ≡ queue_splits_of l.initial.answers;
+  view : queue_view_of l.answers ≡ queue_view_of l.initial.answers;
 }

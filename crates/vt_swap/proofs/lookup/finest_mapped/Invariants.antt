@@ -1,6 +1,6 @@
 use Rattle.std.proofs.Common.{ℕ, ◌<◌, ◌≤◌}
 use Rattle.vt_pages.specs.Pages.{level_of, ancestor_of}
-use Rattle.vt_swap_steps.specs.Told.{IsEntry}
+use Rattle.vt_swap_steps.specs.LogWords.{IsEntry}
 use Rattle.vt_swap.proofs.lookup.finest_mapped.Given as goal
 
 -- no finer page of the line is mapped

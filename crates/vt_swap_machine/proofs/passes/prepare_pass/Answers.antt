@@ -16,6 +16,6 @@ returns-clause-ready g c =
     let idle = c.requires.idle in
     let asked = c.ask.ensures.asked _ _ c.in_ok-prepare.ensures.prepared in
     let s = c.prepare-2.new.self in
-    ready_once g.F.File _ _ _ c.args.own.now _ c.args.streams.now c.prepare.new.self c.ask.new.self c.args.drawers.now s c.args.batch.now.elements
+    ready_once g.F.File _ _ _ c.args.own.now _ c.args.streams.now c.prepare.new.self c.ask.new.self c.args.sampling.now s c.args.batch.now.elements
     idle (search rules) c.requires.lawful c.requires.few c.requires.early (search rules) refl c.prepare.ensures.same c.ask.ensures.rest asked
     (c.in_ok-prepare-2.ensures.ready _ idle.draw) c.prepare-2.ensures.rest

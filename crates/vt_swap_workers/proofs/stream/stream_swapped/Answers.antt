@@ -3,7 +3,7 @@ use Rattle.std.specs.Prelude.{slice_get, slice_index_or}
 use Rattle.std.proofs.lemmas.List.Elements.{All-nil}
 use Rattle.vt_journal.specs.JournalText.{changes_of}
 use Rattle.vt_queue.specs.declared.items.Loaded.{Loaded}
-use Rattle.vt_queue.specs.Queues.{view_of}
+use Rattle.vt_queue.specs.Queues.{queue_view_of}
 use Rattle.vt_streaming.specs.Readings.{is_lost}
 use Rattle.vt_streaming.specs.BatchRounds.{result_group, AreLossesOf}
 use Rattle.vt_streaming.specs.TakenResults.{Streams}
@@ -15,7 +15,7 @@ use Rattle.vt_swap_workers.proofs.stream.stream_swapped.Goals as goal
 
 pub loop-init : goal.loop-init
 loop-init g c =
-    let r = c.requires in let a = r.report in let view = view_of c.args.answers.now in
+    let r = c.requires in let a = r.report in let view = queue_view_of c.args.answers.now in
     record {
       cache = refl;
       answers = r.answers;
@@ -27,7 +27,7 @@ loop-init g c =
           (streams_none (length c.args.batch.now) view c.args.into.now.taken.elements a.flags);
       losses = subst (λ (l : List Loaded). AreLossesOf c.args.batch.now l c.args.into.now.losses.elements) (sym a.no_results)
           (record {
-            told = a.losses;
+            reported = a.losses;
             each = All-nil (λ (x : Loaded). slice_index_or c.args.into.now.losses.elements x.request.ticket true ≡ is_lost x.outcome);
           });
       early = λ fine. (let s = r.early in omega (arith, s));
@@ -56,9 +56,9 @@ loop-preserved-then-is_kept g c =
       few = (let a = c.if-done-batch.false in omega (arith, a));
       done = ap length did.kept.results ∙ length-append c.loop.into.results.elements (x ∷ []) ∙ ap (λ n. n + 1) i.done;
       results_room = (let a = i.results_room in let b = did.kept.results_room in omega (arith, a, b));
-      streams = subst (λ (z : List Bool × List Loaded). Streams all (view_of c.args.answers.now) (view_of c.take_result-loaded.new.answers) z.0 z.1)
+      streams = subst (λ (z : List Bool × List Loaded). Streams all (queue_view_of c.args.answers.now) (queue_view_of c.take_result-loaded.new.answers) z.0 z.1)
           (λ j. (sym did.kept.taken j, sym did.kept.results j))
-          (streams_kept all (view_of c.args.answers.now) (view_of c.loop.answers) (view_of c.take_result-loaded.new.answers) flags
+          (streams_kept all (queue_view_of c.args.answers.now) (queue_view_of c.loop.answers) (queue_view_of c.take_result-loaded.new.answers) flags
           c.loop.into.results.elements x i.streams took.takes inside new);
       losses = subst (λ (z : List Loaded × List Bool). AreLossesOf c.args.batch.now z.0 z.1)
           (λ j. (sym did.kept.results j, sym did.kept.losses j))

@@ -2,7 +2,7 @@ use Rattle.std.proofs.Common.{◌≡◌, ℕ, ◌+◌, ◌*◌, ◌≤◌, subst
 use Rattle.std.proofs.Math.Nat.{mul-le-mul_left}
 use Rattle.vt_definitions.specs.Depths.{texel_bytes, texel_length}
 use Rattle.vt_definitions.specs.Sides.{side}
-use Rattle.vt_plain_bilinear.specs.Served.{IsMemo, AreServed}
+use Rattle.vt_plain_bilinear.specs.Served.{IsMemo, AreCornersServed}
 use Rattle.vt_plain_bilinear.proofs.Kept.{goes_on}
 use Rattle.vt_texel_runs.specs.Blends.{span_corners, IsBlendAt}
 use Rattle.vt_texel_runs.proofs.Blending.{column_inside, corners_are_along, page_along, blend_here, blends_more}
@@ -27,7 +27,7 @@ loop-i-init g c = record {
   on = c.memo_of-memo.ensures.on;
   known = c.memo_of-memo.ensures.known;
   answered = λ i none. absurd (omega (arith, none));
-  told = λ i none. absurd (omega (arith, none));
+  listed = λ i none. absurd (omega (arith, none));
 }
 
 pub corners_along-at-requires-clause-level : goal.corners_along-at-requires-clause-level
@@ -59,7 +59,7 @@ loop-i-preserved g c =
     corners_are_along s r x c.level_size-wide.result.0 c.level_size-wide.result.1 at.result wide high at.ensures.value in
     let version : g.K.Lookup.version c.loop-i.lookup ≡ v = c.loop-i.invariant.on.version in
     let M : ℕ → Type 0 = λ n. IsMemo s n later about.new.memo in
-    let S : ℕ → Type 0 = λ n. AreServed s n later r.level at.result about.result.0 in
+    let S : ℕ → Type 0 = λ n. AreCornersServed s n later r.level at.result about.result.0 in
     let here : IsBlendAt s d v later r.level (span_corners s r x) (texel_bytes d c.put_word.new.bytes x) =
     blend_here s d v later r.level c.blend_words.result at.result (span_corners s r x) c.weights_of.result about.result.0
     (texel_bytes d c.put_word.new.bytes x) corners (subst S version about.ensures.served) c.weights_of.ensures.value c.blend_words.ensures
@@ -69,8 +69,8 @@ loop-i-preserved g c =
       known = subst M version about.ensures.known;
       answered = blends_more s d v (g.K.Lookup.says c.loop-i.lookup) later r x c.loop-i.out c.put_word.new.bytes about.ensures.on.said
           c.put_word.ensures.kept here c.loop-i.invariant.answered;
-      told = wanted_more s r x about.result.1 c.loop-i.pages (omega (arith, c.loop-i.auto.pages, c.requires.pages))
-          (page_along s r x about.result.1 at.result about.ensures.page corners) c.loop-i.invariant.told;
+      listed = wanted_more s r x about.result.1 c.loop-i.pages (omega (arith, c.loop-i.auto.pages, c.requires.pages))
+          (page_along s r x about.result.1 at.result about.ensures.page corners) c.loop-i.invariant.listed;
     }
 
 pub put_word-requires-clause-room : goal.put_word-requires-clause-room

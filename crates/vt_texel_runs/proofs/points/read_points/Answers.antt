@@ -1,6 +1,6 @@
 use Rattle.std.proofs.Common.{◌≡◌, ℕ, ◌+◌, ◌*◌, ◌≤◌, length, get_or, subst, sym, ◌∙◌, arith}
 use Rattle.std.proofs.Math.Nat.{mul-le-mul_left}
-use Rattle.vt_draw.specs.Lookups.{IsFinest}
+use Rattle.vt_draw.specs.Lookups.{IsFinestFound}
 use Rattle.vt_definitions.specs.Depths.{texel_bytes, texel_length}
 use Rattle.vt_draw.proofs.DrawnPixels.{finest_moved}
 use Rattle.vt_texel_runs.specs.declared.points.Point.{Point}
@@ -31,11 +31,11 @@ loop-i-preserved g c =
     let point : Point = get_or c.args.points.now x none in
     let shape : g.K.Lookup.shape last ≡ s = c.word_at_place-word.ensures.shape ∙ c.found_for-found.ensures.shape ∙ c.loop-i.invariant.shape in
     let number : g.K.Lookup.version last ≡ version = c.word_at_place-word.ensures.version ∙ c.found_for-found.ensures.version ∙ c.loop-i.invariant.version in
-    let finest : IsFinest (g.K.Lookup.shape last) (g.K.Lookup.version last) (g.K.Lookup.says last) page found =
+    let finest : IsFinestFound (g.K.Lookup.shape last) (g.K.Lookup.version last) (g.K.Lookup.says last) page found =
     finest_moved (g.K.Lookup.shape middle) (g.K.Lookup.shape last) (g.K.Lookup.version middle)
     (g.K.Lookup.version last) (g.K.Lookup.says middle) (g.K.Lookup.says last) page found
     c.word_at_place-word.ensures.shape c.word_at_place-word.ensures.version c.word_at_place-word.ensures.said c.found_for-found.ensures.finest in
-    let F : ℕ → Type 0 = λ p. IsFinest s version (g.K.Lookup.says last) p found in
+    let F : ℕ → Type 0 = λ p. IsFinestFound s version (g.K.Lookup.says last) p found in
     let here : IsAnswered s g.row.DEPTH version (g.K.Lookup.says last) point (texel_bytes g.row.DEPTH c.put_word.new.bytes x) = record {
       found = found;
       word = c.word_at_place-word.result;

@@ -1,5 +1,5 @@
 use Rattle.std.proofs.Common.{◌≡◌}
-use Rattle.vt_draw.specs.Lookups.{Note, IsFinest}
+use Rattle.vt_draw.specs.Lookups.{Note, IsFinestFound}
 use Rattle.vt_texel_runs.specs.Points.{AreAnswered}
 use Rattle.vt_texel_runs.proofs.points.read_points.Given as goal
 
@@ -10,6 +10,6 @@ invariant-loop-i g l = record {
   version : g.K.Lookup.version l.lookup ≡ g.K.Lookup.version l.fn.lookup;
   said : (note : Note) → g.K.Lookup.says l.fn.lookup note → g.K.Lookup.says l.lookup note;
   kept : g.K.Lookup.kept l.lookup ≡ g.K.Lookup.kept l.fn.lookup;
-  finest : IsFinest (g.K.Lookup.shape l.lookup) (g.K.Lookup.version l.lookup) (g.K.Lookup.says l.lookup) l.wanted l.found;
+  finest : IsFinestFound (g.K.Lookup.shape l.lookup) (g.K.Lookup.version l.lookup) (g.K.Lookup.says l.lookup) l.wanted l.found;
   answered : AreAnswered l.geometry g.row.DEPTH (g.K.Lookup.version l.fn.lookup) (g.K.Lookup.says l.lookup) l.points l.i l.out;
 }

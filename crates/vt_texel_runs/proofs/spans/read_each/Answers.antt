@@ -1,6 +1,6 @@
 use Rattle.std.proofs.Common.{◌≡◌, ℕ, ◌+◌, ◌*◌, ◌≤◌, subst, sym, ap, ◌∙◌, arith}
 use Rattle.std.proofs.Math.Nat.{mul-le-mul_left}
-use Rattle.vt_draw.specs.Lookups.{IsFinest, covering_page}
+use Rattle.vt_draw.specs.Lookups.{IsFinestFound, covering_page}
 use Rattle.vt_definitions.specs.Depths.{texel_bytes, texel_length}
 use Rattle.vt_draw.proofs.DrawnPixels.{finest_moved}
 use Rattle.vt_texel_runs.specs.declared.points.Point.{Point}
@@ -18,7 +18,7 @@ loop-i-init g c = record {
   kept = c.find-found.ensures.kept;
   finest = c.find-found.ensures.finest;
   answered = λ i none. absurd (omega arith);
-  told = λ i none. absurd (omega arith);
+  listed = λ i none. absurd (omega arith);
 }
 
 pub loop-i-preserved : goal.loop-i-preserved
@@ -34,11 +34,11 @@ loop-i-preserved g c =
     let point : Point = c.point_of-point.result in
     let shape : g.K.Lookup.shape last ≡ s = c.word_at_place-word.ensures.shape ∙ c.found_for-found.ensures.shape ∙ c.loop-i.invariant.shape in
     let number : g.K.Lookup.version last ≡ version = c.word_at_place-word.ensures.version ∙ c.found_for-found.ensures.version ∙ c.loop-i.invariant.version in
-    let finest : IsFinest (g.K.Lookup.shape last) (g.K.Lookup.version last) (g.K.Lookup.says last) page found =
+    let finest : IsFinestFound (g.K.Lookup.shape last) (g.K.Lookup.version last) (g.K.Lookup.says last) page found =
     finest_moved (g.K.Lookup.shape middle) (g.K.Lookup.shape last) (g.K.Lookup.version middle)
     (g.K.Lookup.version last) (g.K.Lookup.says middle) (g.K.Lookup.says last) page found
     c.word_at_place-word.ensures.shape c.word_at_place-word.ensures.version c.word_at_place-word.ensures.said c.found_for-found.ensures.finest in
-    let F : ℕ → Type 0 = λ p. IsFinest s version (g.K.Lookup.says last) p found in
+    let F : ℕ → Type 0 = λ p. IsFinestFound s version (g.K.Lookup.says last) p found in
     let there : IsAnswered s g.row.DEPTH version (g.K.Lookup.says last) point (texel_bytes g.row.DEPTH c.put_word.new.bytes x) = record {
       found = found;
       word = c.word_at_place-word.result;
@@ -61,8 +61,8 @@ loop-i-preserved g c =
       finest = finest;
       answered = spanned_more s g.row.DEPTH version (g.K.Lookup.says c.loop-i.lookup) (g.K.Lookup.says last) r x c.loop-i.out c.put_word.new.bytes
           (λ note h. c.word_at_place-word.ensures.said note (c.found_for-found.ensures.said note h)) c.put_word.ensures.kept here c.loop-i.invariant.answered;
-      told = wanted_more s r x page c.loop-i.pages (omega (arith, c.loop-i.auto.pages, c.requires.pages))
-          (c.page_at_place-page.ensures.page ∙ ap (λ (p : Point). covering_page s p.level p.x p.y) c.point_of-point.ensures) c.loop-i.invariant.told;
+      listed = wanted_more s r x page c.loop-i.pages (omega (arith, c.loop-i.auto.pages, c.requires.pages))
+          (c.page_at_place-page.ensures.page ∙ ap (λ (p : Point). covering_page s p.level p.x p.y) c.point_of-point.ensures) c.loop-i.invariant.listed;
     }
 
 pub put_word-requires-clause-room : goal.put_word-requires-clause-room

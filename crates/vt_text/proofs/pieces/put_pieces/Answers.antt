@@ -3,7 +3,7 @@ use Rattle.std.specs.Option.{option_map}
 use Rattle.std.specs.Borrow.{Bor}
 use Rattle.std.proofs.lemmas.Result.{err_from_is_err_and}
 use Rattle.vt_outside.specs.Files.{gained}
-use Rattle.vt_text.specs.Pieces.{joined}
+use Rattle.vt_text.specs.Pieces.{joined_pieces}
 use Rattle.vt_text.proofs.JoinedPieces.{gained_more, part_of_joined}
 use Rattle.vt_outside.specs.declared.answers.OutsideError.TheVariants.{Failed, NoMemory}
 use Rattle.vt_text.proofs.Refused.{none_whole, rose_since}
@@ -22,7 +22,7 @@ returns-in_err-put_piece-clause-part g c =
       j.0,
       part.1
           ∙ ap (option_map (gained (take part.0 (get_or pieces i none).now))) c.loop-piece.invariant.put
-          ∙ gained_more (joined (take i pieces)) (take part.0 (get_or pieces i none).now) held
+          ∙ gained_more (joined_pieces (take i pieces)) (take part.0 (get_or pieces i none).now) held
           ∙ ap (λ (t : List ℕ). option_map (gained t) held) j.1,
     )
 

@@ -1,7 +1,7 @@
 use Rattle.std.proofs.Common.{◌∙◌, sym, ap}
 use Rattle.vt_pages.specs.Shape.{shape_of}
 use Rattle.vt_pages.specs.Pages.{refusal_of}
-use Rattle.vt_tiles.proofs.Flaws.{magic_flaw, short_flaw, geometry_flaw, length_flaw, no_flaw, told_shape, told_length}
+use Rattle.vt_tiles.proofs.Flaws.{magic_flaw, short_flaw, geometry_flaw, length_flaw, no_flaw, spelled_shape, spelled_length}
 use Rattle.vt_tiles.proofs.header.parse_header.Goals as goal
 
 pub returns-in-None-clause-flaw : goal.returns-in-None-clause-flaw
@@ -13,14 +13,14 @@ returns-then-have-clause-flaw c = short_flaw c.args.head.now c.args.have c.in-So
 pub returns-in-Err-clause-flaw : goal.returns-in-Err-clause-flaw
 returns-in-Err-clause-flaw c =
     geometry_flaw c.args.head.now c.args.have c.in-Err.field-0 c.in-Some.ensures.has c.if-have.false
-    (ap refusal_of (told_shape c.args.head.now c.number_at.result c.number_at-2.result c.number_at-3.result c.number_at.ensures
+    (ap refusal_of (spelled_shape c.args.head.now c.number_at.result c.number_at-2.result c.number_at-3.result c.number_at.ensures
     c.number_at-2.ensures c.number_at-3.ensures) ∙ c.in-Err.ensures.err)
 
 pub returns-then-have-want-clause-flaw : goal.returns-then-have-want-clause-flaw
 returns-then-have-want-clause-flaw c =
-    let shape = told_shape c.args.head.now c.number_at.result c.number_at-2.result c.number_at-3.result c.number_at.ensures
+    let shape = spelled_shape c.args.head.now c.number_at.result c.number_at-2.result c.number_at-3.result c.number_at.ensures
     c.number_at-2.ensures c.number_at-3.ensures in
-    let want = told_length c.args.head.now c.in-Ok.geometry
+    let want = spelled_length c.args.head.now c.in-Ok.geometry
     (shape_of c.number_at.result c.number_at-2.result c.number_at-3.result) c.in-Some.depth c.store_length-want.result c.in-Ok.ensures.ok
     shape c.in-Some.ensures.is c.store_length-want.ensures in
     rw want (length_flaw c.args.head.now c.args.have c.in-Some.ensures.has c.if-have.false
@@ -28,9 +28,9 @@ returns-then-have-want-clause-flaw c =
 
 pub returns-clause-no_flaw : goal.returns-clause-no_flaw
 returns-clause-no_flaw c =
-    let shape = told_shape c.args.head.now c.number_at.result c.number_at-2.result c.number_at-3.result c.number_at.ensures
+    let shape = spelled_shape c.args.head.now c.number_at.result c.number_at-2.result c.number_at-3.result c.number_at.ensures
     c.number_at-2.ensures c.number_at-3.ensures in
-    let want = told_length c.args.head.now c.in-Ok.geometry
+    let want = spelled_length c.args.head.now c.in-Ok.geometry
     (shape_of c.number_at.result c.number_at-2.result c.number_at-3.result) c.in-Some.depth c.store_length-want.result c.in-Ok.ensures.ok
     shape c.in-Some.ensures.is c.store_length-want.ensures in
     no_flaw c.args.head.now c.args.have c.in-Some.ensures.has c.if-have.false
@@ -38,5 +38,5 @@ returns-clause-no_flaw c =
 
 pub returns-clause-shape : goal.returns-clause-shape
 returns-clause-shape c = c.in-Ok.ensures.ok
-    ∙ sym (told_shape c.args.head.now c.number_at.result c.number_at-2.result c.number_at-3.result c.number_at.ensures
+    ∙ sym (spelled_shape c.args.head.now c.number_at.result c.number_at-2.result c.number_at-3.result c.number_at.ensures
     c.number_at-2.ensures c.number_at-3.ensures)

@@ -2,7 +2,7 @@ use Rattle.std.proofs.Common.{List, ap, ◌∙◌}
 use Rattle.std.proofs.lemmas.Result.{err_from_is_err_and}
 use Rattle.std.specs.Prelude.{length}
 use Rattle.vt_journal.specs.declared.changes.Change.{Change}
-use Rattle.vt_outside.proofs.Untold.{OnErr-all}
+use Rattle.vt_outside.proofs.UnknownContents.{OnErr-all}
 use Rattle.vt_walk.specs.WalkInputs.{input_scene}
 use Rattle.vt_walk.proofs.Advancing.{may_prepare, is_job, read_at_most, read_broken, ran_anyhow, drawn_by_some}
 use Rattle.vt_walk.proofs.advance.draw_pass.Goals as goal
@@ -20,7 +20,7 @@ run_pass-requires-clause-job g c κs within = is_job g.M.PassMachine.drawing
 
 pub plan_on-requires-clause-ran : goal.plan_on-requires-clause-ran
 plan_on-requires-clause-ran g c κs within = (
-  record { told = c.requires.may.0; run = c.requires.may.1; machine = g.M.PassMachine.state c.args.machine.now },
+  record { known = c.requires.may.0; run = c.requires.may.1; machine = g.M.PassMachine.state c.args.machine.now },
   record {
     may = c.requires.may.2;
     start_is = c.version-start.ensures.version ∙ ap (λ (x : List Change). length x) c.journal.ensures;
@@ -41,8 +41,8 @@ returns-in_err-report-clause-refused g c =
     c.args.recency.now c.requires.may.2 c.in_err-report.ensures.broke)
 
 pub returns-clause-drawn : goal.returns-clause-drawn
-returns-clause-drawn g c = λ told run may. c.plan_on.ensures
-    (record { told = told; run = run; machine = g.M.PassMachine.state c.args.machine.now })
+returns-clause-drawn g c = λ known run may. c.plan_on.ensures
+    (record { known = known; run = run; machine = g.M.PassMachine.state c.args.machine.now })
     (record {
       may = may;
       start_is = c.version-start.ensures.version ∙ ap (λ (x : List Change). length x) c.journal.ensures;

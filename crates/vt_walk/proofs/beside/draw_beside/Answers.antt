@@ -17,7 +17,7 @@ make_picture-requires-clause-few g c κs within =
 pub make_picture-requires-clause-count : goal.make_picture-requires-clause-count
 make_picture-requires-clause-count g c κs within =
     let b = c.requires.stands.0 in
-    picture_rows g.M.PassMachine.drawing (IsDrawnBySome g.M.PassMachine) (g.met.M.PassMachine g.world.𝓛 g.world.𝓜 g.world.𝓡 ((λ s x. x), (λ x. x), (λ x. x), λ x. x)).shows_whole c.args.input.now b.told c.args.number c.args.passed b.first
+    picture_rows g.M.PassMachine.drawing (IsDrawnBySome g.M.PassMachine) (g.met.M.PassMachine g.world.𝓛 g.world.𝓜 g.world.𝓡 ((λ s x. x), (λ x. x), (λ x. x), λ x. x)).shows_whole c.args.input.now b.known c.args.number c.args.passed b.first
     (g.M.PassMachine.state c.args.machine.now) c.args.recency.now c.requires.input
     (walk_state g.D.Folder c.args.input.now.names.store.now c.args.folder.now (b.kept ∷ (g.M.PassMachine.state c.args.machine.now).files)
     (g.O.Sink.held c.args.out.now) (g.O.Sink.faults c.args.out.now)) c.requires.stands.1
@@ -25,7 +25,7 @@ make_picture-requires-clause-count g c κs within =
 pub make_picture-requires-clause-full : goal.make_picture-requires-clause-full
 make_picture-requires-clause-full g c κs within =
     let b = c.requires.stands.0 in
-    full_rows g.M.PassMachine.drawing (IsDrawnBySome g.M.PassMachine) (g.met.M.PassMachine g.world.𝓛 g.world.𝓜 g.world.𝓡 ((λ s x. x), (λ x. x), (λ x. x), λ x. x)).shows_whole c.args.input.now b.told c.args.number c.args.passed b.first
+    full_rows g.M.PassMachine.drawing (IsDrawnBySome g.M.PassMachine) (g.met.M.PassMachine g.world.𝓛 g.world.𝓜 g.world.𝓡 ((λ s x. x), (λ x. x), (λ x. x), λ x. x)).shows_whole c.args.input.now b.known c.args.number c.args.passed b.first
     (g.M.PassMachine.state c.args.machine.now) c.args.recency.now c.requires.input
     (walk_state g.D.Folder c.args.input.now.names.store.now c.args.folder.now (b.kept ∷ (g.M.PassMachine.state c.args.machine.now).files)
     (g.O.Sink.held c.args.out.now) (g.O.Sink.faults c.args.out.now)) c.requires.stands.1
@@ -33,18 +33,18 @@ make_picture-requires-clause-full g c κs within =
 pub plan_on-requires-clause-ran : goal.plan_on-requires-clause-ran
 plan_on-requires-clause-ran g c κs within =
     let b = c.requires.stands.0 in
-    let s = ran_as (IsDrawnBySome g.M.PassMachine) (given_of g.M.PassMachine.drawing c.args.input.now b.told) (c.args.number + 1) (next_step c.args.passed) c.step_after-step.result
+    let s = ran_as (IsDrawnBySome g.M.PassMachine) (given_of g.M.PassMachine.drawing c.args.input.now b.known) (c.args.number + 1) (next_step c.args.passed) c.step_after-step.result
     (length (g.M.PassMachine.state c.args.machine.now).journal) c.version-start.result c.in_ok-report.report b.first
     (λ files. state_by g.D.Folder g.O.Sink c.args.input.now.names.store.now c.write_beside.new.folder c.write_beside.new.out (b.kept ∷ files)) (g.M.PassMachine.state c.write_beside.new.machine) c.args.recency.now
     c.step_after-step.ensures (c.version-start.ensures.version ∙ ap (λ (x : List Change). length x) c.journal.ensures) (c.in_ok-report.ensures.ran b c.requires.stands.1) in (
-      record { told = b.told; run = s.stands.run; machine = s.before },
+      record { known = b.known; run = s.stands.run; machine = s.before },
       s.has_run,
     )
 
 pub returns-in_err-name-clause-taken : goal.returns-in_err-name-clause-taken
 returns-in_err-name-clause-taken g c =
     let p = err_from_is_err_and c.from_residual.result c.from_residual.ensures.1 in
-    λ b at. rw p.1 (left_after g.M.PassMachine.drawing (IsDrawnBySome g.M.PassMachine) (g.met.M.PassMachine g.world.𝓛 g.world.𝓜 g.world.𝓡 ((λ s x. x), (λ x. x), (λ x. x), λ x. x)).shows_whole c.args.input.now b.told c.args.number c.args.passed b.first
+    λ b at. rw p.1 (left_after g.M.PassMachine.drawing (IsDrawnBySome g.M.PassMachine) (g.met.M.PassMachine g.world.𝓛 g.world.𝓜 g.world.𝓡 ((λ s x. x), (λ x. x), (λ x. x), λ x. x)).shows_whole c.args.input.now b.known c.args.number c.args.passed b.first
     (g.M.PassMachine.state c.args.machine.now) c.args.recency.now c.requires.input
     (walk_state g.D.Folder c.args.input.now.names.store.now c.args.folder.now (b.kept ∷ (g.M.PassMachine.state c.args.machine.now).files)
     (g.O.Sink.held c.args.out.now) (g.O.Sink.faults c.args.out.now)) at p.0 p.2)
@@ -52,36 +52,36 @@ returns-in_err-name-clause-taken g c =
 pub returns-in_err-report-clause-taken : goal.returns-in_err-report-clause-taken
 returns-in_err-report-clause-taken g c =
     let p = err_from_is_err_and c.from_residual-in_err-report.result c.from_residual-in_err-report.ensures.1 in
-    λ b at. rw p.1 (subst (LeftByRefusal (IsDrawnBySome g.M.PassMachine) (given_of g.M.PassMachine.drawing c.args.input.now b.told) b.first
+    λ b at. rw p.1 (subst (LeftByRefusal (IsDrawnBySome g.M.PassMachine) (given_of g.M.PassMachine.drawing c.args.input.now b.known) b.first
     (walk_state g.D.Folder c.args.input.now.names.store.now c.write_beside.new.folder (b.kept ∷ (g.M.PassMachine.state c.write_beside.new.machine).files)
     (g.O.Sink.held c.write_beside.new.out) (g.O.Sink.faults c.write_beside.new.out))) (sym p.2) (c.in_err-report.ensures.ran b at))
 
 pub returns-in_err-drawn-clause-taken : goal.returns-in_err-drawn-clause-taken
 returns-in_err-drawn-clause-taken g c =
     let p = err_from_is_err_and c.from_residual-in_err-drawn.result c.from_residual-in_err-drawn.ensures.1 in
-    λ b at. rw p.1 (plan_broke g.M.PassMachine.drawing (IsDrawnBySome g.M.PassMachine) c.args.input.now b.told
+    λ b at. rw p.1 (plan_broke g.M.PassMachine.drawing (IsDrawnBySome g.M.PassMachine) c.args.input.now b.known
     g.D.Folder c.args.input.now.names.store.now b.kept (g.O.Sink.held c.write_beside.new.out) (g.O.Sink.faults c.write_beside.new.out)
     c.write_beside.new.folder (c.args.number + 1) c.version-start.result c.step_after-step.result c.in_ok-report.report b.first (g.M.PassMachine.state c.write_beside.new.machine)
-    c.args.recency.now c.plan_on.new.recency (ran_as (IsDrawnBySome g.M.PassMachine) (given_of g.M.PassMachine.drawing c.args.input.now b.told) (c.args.number + 1) (next_step c.args.passed) c.step_after-step.result
+    c.args.recency.now c.plan_on.new.recency (ran_as (IsDrawnBySome g.M.PassMachine) (given_of g.M.PassMachine.drawing c.args.input.now b.known) (c.args.number + 1) (next_step c.args.passed) c.step_after-step.result
     (length (g.M.PassMachine.state c.args.machine.now).journal) c.version-start.result c.in_ok-report.report b.first
     (λ files. state_by g.D.Folder g.O.Sink c.args.input.now.names.store.now c.write_beside.new.folder c.write_beside.new.out (b.kept ∷ files)) (g.M.PassMachine.state c.write_beside.new.machine) c.args.recency.now
     c.step_after-step.ensures (c.version-start.ensures.version ∙ ap (λ (x : List Change). length x) c.journal.ensures) (c.in_ok-report.ensures.ran b at)) p.0 p.2)
 
 pub returns-clause-taken : goal.returns-clause-taken
 returns-clause-taken g c = λ b at.
-    let s = ran_as (IsDrawnBySome g.M.PassMachine) (given_of g.M.PassMachine.drawing c.args.input.now b.told) (c.args.number + 1) (next_step c.args.passed) c.step_after-step.result
+    let s = ran_as (IsDrawnBySome g.M.PassMachine) (given_of g.M.PassMachine.drawing c.args.input.now b.known) (c.args.number + 1) (next_step c.args.passed) c.step_after-step.result
     (length (g.M.PassMachine.state c.args.machine.now).journal) c.version-start.result c.in_ok-report.report b.first
     (λ files. state_by g.D.Folder g.O.Sink c.args.input.now.names.store.now c.write_beside.new.folder c.write_beside.new.out (b.kept ∷ files)) (g.M.PassMachine.state c.write_beside.new.machine) c.args.recency.now
     c.step_after-step.ensures (c.version-start.ensures.version ∙ ap (λ (x : List Change). length x) c.journal.ensures) (c.in_ok-report.ensures.ran b at) in
-    is_drawn g.M.PassMachine.drawing (IsDrawnBySome g.M.PassMachine) c.args.input.now b.told
+    is_drawn g.M.PassMachine.drawing (IsDrawnBySome g.M.PassMachine) c.args.input.now b.known
     g.D.Folder c.args.input.now.names.store.now b.kept (g.O.Sink.held c.write_beside.new.out) (g.O.Sink.faults c.write_beside.new.out)
     c.write_beside.new.folder (c.args.number + 1) c.version-start.result c.step_after-step.result c.in_ok-report.report b.first (g.M.PassMachine.state c.write_beside.new.machine)
     c.args.recency.now c.plan_on.new.recency s c.in_ok-drawn.drawn
-    (c.in_ok-drawn.ensures (record { told = b.told; run = s.stands.run; machine = s.before }) s.has_run)
+    (c.in_ok-drawn.ensures (record { known = b.known; run = s.stands.run; machine = s.before }) s.has_run)
 
 pub returns-in_err-name-clause-kept : goal.returns-in_err-name-clause-kept
 returns-in_err-name-clause-kept g c = record {
-  same = record { names = refl; tell = refl };
+  same = record { names = refl; all_known = refl };
   asked = refl;
   faults = omega arith;
   out_faults = omega arith;

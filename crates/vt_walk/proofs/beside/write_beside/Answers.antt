@@ -3,7 +3,7 @@ use Rattle.std.specs.Prelude.{Result}
 use Rattle.std.proofs.lemmas.Result.{err_from_is_err_and}
 use Rattle.vt_outside.specs.declared.answers.NoMemory.{NoMemory as Refusal}
 use Rattle.vt_walk_decisions.specs.MachineTypes.crew.PassReport.{PassReport}
-use Rattle.vt_walk_decisions.specs.Passes.{Ends}
+use Rattle.vt_walk_decisions.specs.Passes.{EndsPassRun}
 use Rattle.vt_walk.specs.States.{walk_state}
 use Rattle.vt_walk.specs.WalkInputs.{input_scene}
 use Rattle.vt_walk.specs.DrawnBy.{IsDrawnBySome}
@@ -14,7 +14,7 @@ use Rattle.vt_walk.proofs.beside.write_beside.Goals as goal
 pub run_and_write-ran-requires-clause-may : goal.run_and_write-ran-requires-clause-may
 run_and_write-ran-requires-clause-may g c κs within =
     let b = c.requires.stands.0 in
-    may_prepare_next g.M.PassMachine.drawing (IsDrawnBySome g.M.PassMachine) (g.met.M.PassMachine g.world.𝓛 g.world.𝓜 g.world.𝓡 ((λ s x. x), (λ x. x), (λ x. x), λ x. x)).shows_whole c.args.input.now b.told c.args.number c.args.passed.now b.first
+    may_prepare_next g.M.PassMachine.drawing (IsDrawnBySome g.M.PassMachine) (g.met.M.PassMachine g.world.𝓛 g.world.𝓜 g.world.𝓡 ((λ s x. x), (λ x. x), (λ x. x), λ x. x)).shows_whole c.args.input.now b.known c.args.number c.args.passed.now b.first
     (g.M.PassMachine.state c.args.machine.now) c.args.recency.now c.requires.input c.requires.goes_on c.requires.followed
     (walk_state g.D.Folder c.args.input.now.names.store.now c.args.folder.now (b.kept ∷ (g.M.PassMachine.state c.args.machine.now).files)
     (g.O.Sink.held c.args.out.now) (g.O.Sink.faults c.args.out.now)) c.requires.stands.1 c.requires.few
@@ -22,7 +22,7 @@ run_and_write-ran-requires-clause-may g c κs within =
 pub run_and_write-ran-requires-clause-job : goal.run_and_write-ran-requires-clause-job
 run_and_write-ran-requires-clause-job g c κs within =
     let b = c.requires.stands.0 in
-    is_next_job g.M.PassMachine.drawing (IsDrawnBySome g.M.PassMachine) (g.met.M.PassMachine g.world.𝓛 g.world.𝓜 g.world.𝓡 ((λ s x. x), (λ x. x), (λ x. x), λ x. x)).shows_whole c.args.input.now b.told c.args.number c.args.passed.now b.first
+    is_next_job g.M.PassMachine.drawing (IsDrawnBySome g.M.PassMachine) (g.met.M.PassMachine g.world.𝓛 g.world.𝓜 g.world.𝓡 ((λ s x. x), (λ x. x), (λ x. x), λ x. x)).shows_whole c.args.input.now b.known c.args.number c.args.passed.now b.first
     (g.M.PassMachine.state c.args.machine.now) c.args.recency.now c.requires.input c.requires.goes_on c.requires.followed
     (walk_state g.D.Folder c.args.input.now.names.store.now c.args.folder.now (b.kept ∷ (g.M.PassMachine.state c.args.machine.now).files)
     (g.O.Sink.held c.args.out.now) (g.O.Sink.faults c.args.out.now)) c.requires.stands.1
@@ -30,12 +30,12 @@ run_and_write-ran-requires-clause-job g c κs within =
 pub returns-in_err-written-clause-ran : goal.returns-in_err-written-clause-ran
 returns-in_err-written-clause-ran g c =
     let p = err_from_is_err_and c.from_residual.result c.from_residual.ensures.1 in
-    λ b at. rw p.1 (picture_left g.M.PassMachine.drawing (IsDrawnBySome g.M.PassMachine) (g.met.M.PassMachine g.world.𝓛 g.world.𝓜 g.world.𝓡 ((λ s x. x), (λ x. x), (λ x. x), λ x. x)).shows_whole c.args.input.now b.told c.args.number c.args.passed.now b.first
+    λ b at. rw p.1 (picture_left g.M.PassMachine.drawing (IsDrawnBySome g.M.PassMachine) (g.met.M.PassMachine g.world.𝓛 g.world.𝓜 g.world.𝓡 ((λ s x. x), (λ x. x), (λ x. x), λ x. x)).shows_whole c.args.input.now b.known c.args.number c.args.passed.now b.first
     (g.M.PassMachine.state c.args.machine.now) c.args.recency.now c.requires.input c.requires.goes_on c.requires.followed
     g.D.Folder c.args.input.now.names.store.now b.kept (g.O.Sink.held c.args.out.now) (g.O.Sink.faults c.args.out.now) c.args.folder.now
     c.run_and_write-ran.new.folder c.args.name.now c.args.bytes.now c.run_and_write-ran.result.1 (g.M.PassMachine.state c.run_and_write-ran.new.machine)
     c.requires.name c.requires.bytes c.run_and_write-ran.ensures.written
-    (next_read g.M.PassMachine.drawing (IsDrawnBySome g.M.PassMachine) (g.met.M.PassMachine g.world.𝓛 g.world.𝓜 g.world.𝓡 ((λ s x. x), (λ x. x), (λ x. x), λ x. x)).shows_whole c.args.input.now b.told c.args.number c.args.passed.now b.first
+    (next_read g.M.PassMachine.drawing (IsDrawnBySome g.M.PassMachine) (g.met.M.PassMachine g.world.𝓛 g.world.𝓜 g.world.𝓡 ((λ s x. x), (λ x. x), (λ x. x), λ x. x)).shows_whole c.args.input.now b.known c.args.number c.args.passed.now b.first
     (g.M.PassMachine.state c.args.machine.now) c.args.recency.now c.requires.input c.requires.goes_on c.requires.followed
     (walk_state g.D.Folder c.args.input.now.names.store.now c.args.folder.now (b.kept ∷ (g.M.PassMachine.state c.args.machine.now).files)
     (g.O.Sink.held c.args.out.now) (g.O.Sink.faults c.args.out.now)) at
@@ -45,12 +45,12 @@ returns-in_err-written-clause-ran g c =
 pub returns-in_err-put_picture_line-clause-ran : goal.returns-in_err-put_picture_line-clause-ran
 returns-in_err-put_picture_line-clause-ran g c =
     let p = err_from_is_err_and c.from_residual-in_err-put_picture_line.result c.from_residual-in_err-put_picture_line.ensures.1 in
-    λ b at. rw p.1 (line_left g.M.PassMachine.drawing (IsDrawnBySome g.M.PassMachine) (g.met.M.PassMachine g.world.𝓛 g.world.𝓜 g.world.𝓡 ((λ s x. x), (λ x. x), (λ x. x), λ x. x)).shows_whole c.args.input.now b.told c.args.number c.args.passed.now b.first
+    λ b at. rw p.1 (line_left g.M.PassMachine.drawing (IsDrawnBySome g.M.PassMachine) (g.met.M.PassMachine g.world.𝓛 g.world.𝓜 g.world.𝓡 ((λ s x. x), (λ x. x), (λ x. x), λ x. x)).shows_whole c.args.input.now b.known c.args.number c.args.passed.now b.first
     (g.M.PassMachine.state c.args.machine.now) c.args.recency.now c.requires.input c.requires.goes_on c.requires.followed
     g.D.Folder c.args.input.now.names.store.now b.kept (g.O.Sink.held c.args.out.now) (g.O.Sink.faults c.args.out.now) c.args.folder.now
     c.run_and_write-ran.new.folder c.args.name.now c.args.bytes.now c.run_and_write-ran.result.1 (g.M.PassMachine.state c.run_and_write-ran.new.machine)
     c.requires.name c.requires.bytes c.run_and_write-ran.ensures.written
-    (next_read g.M.PassMachine.drawing (IsDrawnBySome g.M.PassMachine) (g.met.M.PassMachine g.world.𝓛 g.world.𝓜 g.world.𝓡 ((λ s x. x), (λ x. x), (λ x. x), λ x. x)).shows_whole c.args.input.now b.told c.args.number c.args.passed.now b.first
+    (next_read g.M.PassMachine.drawing (IsDrawnBySome g.M.PassMachine) (g.met.M.PassMachine g.world.𝓛 g.world.𝓜 g.world.𝓡 ((λ s x. x), (λ x. x), (λ x. x), λ x. x)).shows_whole c.args.input.now b.known c.args.number c.args.passed.now b.first
     (g.M.PassMachine.state c.args.machine.now) c.args.recency.now c.requires.input c.requires.goes_on c.requires.followed
     (walk_state g.D.Folder c.args.input.now.names.store.now c.args.folder.now (b.kept ∷ (g.M.PassMachine.state c.args.machine.now).files)
     (g.O.Sink.held c.args.out.now) (g.O.Sink.faults c.args.out.now)) at
@@ -62,12 +62,12 @@ returns-in_err-put_picture_line-clause-ran g c =
 pub returns-in_err-report-clause-ran : goal.returns-in_err-report-clause-ran
 returns-in_err-report-clause-ran g c =
     let p = err_from_is_err_and c.from_residual-in_err-report.result c.from_residual-in_err-report.ensures.1 in
-    λ b at. rw p.1 (pass_left g.M.PassMachine.drawing (IsDrawnBySome g.M.PassMachine) (g.met.M.PassMachine g.world.𝓛 g.world.𝓜 g.world.𝓡 ((λ s x. x), (λ x. x), (λ x. x), λ x. x)).shows_whole c.args.input.now b.told c.args.number c.args.passed.now b.first
+    λ b at. rw p.1 (pass_left g.M.PassMachine.drawing (IsDrawnBySome g.M.PassMachine) (g.met.M.PassMachine g.world.𝓛 g.world.𝓜 g.world.𝓡 ((λ s x. x), (λ x. x), (λ x. x), λ x. x)).shows_whole c.args.input.now b.known c.args.number c.args.passed.now b.first
     (g.M.PassMachine.state c.args.machine.now) c.args.recency.now c.requires.input c.requires.goes_on c.requires.followed
     g.D.Folder c.args.input.now.names.store.now b.kept (g.O.Sink.held c.args.out.now) (g.O.Sink.faults c.args.out.now) c.args.folder.now
     c.run_and_write-ran.new.folder c.args.name.now c.args.bytes.now c.run_and_write-ran.result.1 (g.M.PassMachine.state c.run_and_write-ran.new.machine)
     c.requires.name c.requires.bytes c.run_and_write-ran.ensures.written
-    (next_read g.M.PassMachine.drawing (IsDrawnBySome g.M.PassMachine) (g.met.M.PassMachine g.world.𝓛 g.world.𝓜 g.world.𝓡 ((λ s x. x), (λ x. x), (λ x. x), λ x. x)).shows_whole c.args.input.now b.told c.args.number c.args.passed.now b.first
+    (next_read g.M.PassMachine.drawing (IsDrawnBySome g.M.PassMachine) (g.met.M.PassMachine g.world.𝓛 g.world.𝓜 g.world.𝓡 ((λ s x. x), (λ x. x), (λ x. x), λ x. x)).shows_whole c.args.input.now b.known c.args.number c.args.passed.now b.first
     (g.M.PassMachine.state c.args.machine.now) c.args.recency.now c.requires.input c.requires.goes_on c.requires.followed
     (walk_state g.D.Folder c.args.input.now.names.store.now c.args.folder.now (b.kept ∷ (g.M.PassMachine.state c.args.machine.now).files)
     (g.O.Sink.held c.args.out.now) (g.O.Sink.faults c.args.out.now)) at
@@ -77,19 +77,19 @@ returns-in_err-report-clause-ran g c =
 
 pub returns-clause-ran : goal.returns-clause-ran
 returns-clause-ran g c =
-    let ends : Ends g.M.PassMachine.drawing (g.M.PassMachine.drawn c.run_and_write-ran.new.machine) (g.M.PassMachine.is_idle c.run_and_write-ran.new.machine)
-    (record { scene = input_scene c.args.input.now; picture = c.args.passed.now.picture + 1; batch = c.args.passed.now.outlook.plan.elements })
+    let ends : EndsPassRun g.M.PassMachine.drawing (g.M.PassMachine.drawn c.run_and_write-ran.new.machine) (g.M.PassMachine.is_idle c.run_and_write-ran.new.machine)
+    (record { scene = input_scene c.args.input.now; picture = c.args.passed.now.picture + 1; batch = c.args.passed.now.next_plan.plan.elements })
     (Ok c.in_ok-report.report) (g.M.PassMachine.state c.args.machine.now) (g.M.PassMachine.state c.run_and_write-ran.new.machine) =
-    subst (λ (r : Result PassReport Refusal). Ends g.M.PassMachine.drawing (g.M.PassMachine.drawn c.run_and_write-ran.new.machine)
+    subst (λ (r : Result PassReport Refusal). EndsPassRun g.M.PassMachine.drawing (g.M.PassMachine.drawn c.run_and_write-ran.new.machine)
     (g.M.PassMachine.is_idle c.run_and_write-ran.new.machine)
-    (record { scene = input_scene c.args.input.now; picture = c.args.passed.now.picture + 1; batch = c.args.passed.now.outlook.plan.elements })
+    (record { scene = input_scene c.args.input.now; picture = c.args.passed.now.picture + 1; batch = c.args.passed.now.next_plan.plan.elements })
     r (g.M.PassMachine.state c.args.machine.now) (g.M.PassMachine.state c.run_and_write-ran.new.machine)) c.in_ok-report.was c.run_and_write-ran.ensures.ran in
-    λ b at. pass_ran g.M.PassMachine.drawing (IsDrawnBySome g.M.PassMachine) (g.met.M.PassMachine g.world.𝓛 g.world.𝓜 g.world.𝓡 ((λ s x. x), (λ x. x), (λ x. x), λ x. x)).shows_whole c.args.input.now b.told c.args.number c.args.passed.now b.first
+    λ b at. pass_ran g.M.PassMachine.drawing (IsDrawnBySome g.M.PassMachine) (g.met.M.PassMachine g.world.𝓛 g.world.𝓜 g.world.𝓡 ((λ s x. x), (λ x. x), (λ x. x), λ x. x)).shows_whole c.args.input.now b.known c.args.number c.args.passed.now b.first
     (g.M.PassMachine.state c.args.machine.now) c.args.recency.now c.requires.input c.requires.goes_on c.requires.followed
     g.D.Folder c.args.input.now.names.store.now b.kept (g.O.Sink.held c.args.out.now) (g.O.Sink.faults c.args.out.now) c.args.folder.now
     c.run_and_write-ran.new.folder c.args.name.now c.args.bytes.now c.run_and_write-ran.result.1 (g.M.PassMachine.state c.run_and_write-ran.new.machine)
     c.requires.name c.requires.bytes c.run_and_write-ran.ensures.written
-    (next_read g.M.PassMachine.drawing (IsDrawnBySome g.M.PassMachine) (g.met.M.PassMachine g.world.𝓛 g.world.𝓜 g.world.𝓡 ((λ s x. x), (λ x. x), (λ x. x), λ x. x)).shows_whole c.args.input.now b.told c.args.number c.args.passed.now b.first
+    (next_read g.M.PassMachine.drawing (IsDrawnBySome g.M.PassMachine) (g.met.M.PassMachine g.world.𝓛 g.world.𝓜 g.world.𝓡 ((λ s x. x), (λ x. x), (λ x. x), λ x. x)).shows_whole c.args.input.now b.known c.args.number c.args.passed.now b.first
     (g.M.PassMachine.state c.args.machine.now) c.args.recency.now c.requires.input c.requires.goes_on c.requires.followed
     (walk_state g.D.Folder c.args.input.now.names.store.now c.args.folder.now (b.kept ∷ (g.M.PassMachine.state c.args.machine.now).files)
     (g.O.Sink.held c.args.out.now) (g.O.Sink.faults c.args.out.now)) at
@@ -97,16 +97,16 @@ returns-clause-ran g c =
     c.run_and_write-ran.ensures.ran) at _ c.in_ok-written.was (g.O.Sink.held c.put_picture_line.new.out) (g.O.Sink.faults c.put_picture_line.new.out)
     c.in_ok-put_picture_line.ensures.whole c.in_ok-put_picture_line.ensures.faults c.in_ok-report.report
     (ran_anyhow g.M.PassMachine.drawing (g.M.PassMachine.drawn c.run_and_write-ran.new.machine)
-    (record { scene = input_scene c.args.input.now; picture = c.args.passed.now.picture + 1; batch = c.args.passed.now.outlook.plan.elements })
+    (record { scene = input_scene c.args.input.now; picture = c.args.passed.now.picture + 1; batch = c.args.passed.now.next_plan.plan.elements })
     c.in_ok-report.report (g.M.PassMachine.state c.args.machine.now) (g.M.PassMachine.state c.run_and_write-ran.new.machine) ends.ran)
     (drawn_by_some g.M.PassMachine c.run_and_write-ran.new.machine
-    (record { scene = input_scene c.args.input.now; picture = c.args.passed.now.picture + 1; batch = c.args.passed.now.outlook.plan.elements })
+    (record { scene = input_scene c.args.input.now; picture = c.args.passed.now.picture + 1; batch = c.args.passed.now.next_plan.plan.elements })
     c.in_ok-report.report (g.M.PassMachine.state c.args.machine.now) ends.goes_on ends.ran)
 
 pub returns-in_err-written-clause-kept : goal.returns-in_err-written-clause-kept
 returns-in_err-written-clause-kept g c = record {
   same = let b = c.requires.stands.0 in
-      (next_read g.M.PassMachine.drawing (IsDrawnBySome g.M.PassMachine) (g.met.M.PassMachine g.world.𝓛 g.world.𝓜 g.world.𝓡 ((λ s x. x), (λ x. x), (λ x. x), λ x. x)).shows_whole c.args.input.now b.told c.args.number c.args.passed.now b.first
+      (next_read g.M.PassMachine.drawing (IsDrawnBySome g.M.PassMachine) (g.met.M.PassMachine g.world.𝓛 g.world.𝓜 g.world.𝓡 ((λ s x. x), (λ x. x), (λ x. x), λ x. x)).shows_whole c.args.input.now b.known c.args.number c.args.passed.now b.first
       (g.M.PassMachine.state c.args.machine.now) c.args.recency.now c.requires.input c.requires.goes_on c.requires.followed
       (walk_state g.D.Folder c.args.input.now.names.store.now c.args.folder.now (b.kept ∷ (g.M.PassMachine.state c.args.machine.now).files)
       (g.O.Sink.held c.args.out.now) (g.O.Sink.faults c.args.out.now)) c.requires.stands.1
@@ -120,7 +120,7 @@ returns-in_err-written-clause-kept g c = record {
 pub returns-in_err-put_picture_line-clause-kept : goal.returns-in_err-put_picture_line-clause-kept
 returns-in_err-put_picture_line-clause-kept g c = record {
   same = let b = c.requires.stands.0 in
-      (next_read g.M.PassMachine.drawing (IsDrawnBySome g.M.PassMachine) (g.met.M.PassMachine g.world.𝓛 g.world.𝓜 g.world.𝓡 ((λ s x. x), (λ x. x), (λ x. x), λ x. x)).shows_whole c.args.input.now b.told c.args.number c.args.passed.now b.first
+      (next_read g.M.PassMachine.drawing (IsDrawnBySome g.M.PassMachine) (g.met.M.PassMachine g.world.𝓛 g.world.𝓜 g.world.𝓡 ((λ s x. x), (λ x. x), (λ x. x), λ x. x)).shows_whole c.args.input.now b.known c.args.number c.args.passed.now b.first
       (g.M.PassMachine.state c.args.machine.now) c.args.recency.now c.requires.input c.requires.goes_on c.requires.followed
       (walk_state g.D.Folder c.args.input.now.names.store.now c.args.folder.now (b.kept ∷ (g.M.PassMachine.state c.args.machine.now).files)
       (g.O.Sink.held c.args.out.now) (g.O.Sink.faults c.args.out.now)) c.requires.stands.1
@@ -134,7 +134,7 @@ returns-in_err-put_picture_line-clause-kept g c = record {
 pub returns-in_err-report-clause-kept : goal.returns-in_err-report-clause-kept
 returns-in_err-report-clause-kept g c = record {
   same = let b = c.requires.stands.0 in
-      (next_read g.M.PassMachine.drawing (IsDrawnBySome g.M.PassMachine) (g.met.M.PassMachine g.world.𝓛 g.world.𝓜 g.world.𝓡 ((λ s x. x), (λ x. x), (λ x. x), λ x. x)).shows_whole c.args.input.now b.told c.args.number c.args.passed.now b.first
+      (next_read g.M.PassMachine.drawing (IsDrawnBySome g.M.PassMachine) (g.met.M.PassMachine g.world.𝓛 g.world.𝓜 g.world.𝓡 ((λ s x. x), (λ x. x), (λ x. x), λ x. x)).shows_whole c.args.input.now b.known c.args.number c.args.passed.now b.first
       (g.M.PassMachine.state c.args.machine.now) c.args.recency.now c.requires.input c.requires.goes_on c.requires.followed
       (walk_state g.D.Folder c.args.input.now.names.store.now c.args.folder.now (b.kept ∷ (g.M.PassMachine.state c.args.machine.now).files)
       (g.O.Sink.held c.args.out.now) (g.O.Sink.faults c.args.out.now)) c.requires.stands.1
@@ -148,7 +148,7 @@ returns-in_err-report-clause-kept g c = record {
 pub returns-clause-kept : goal.returns-clause-kept
 returns-clause-kept g c = record {
   same = let b = c.requires.stands.0 in
-      (next_read g.M.PassMachine.drawing (IsDrawnBySome g.M.PassMachine) (g.met.M.PassMachine g.world.𝓛 g.world.𝓜 g.world.𝓡 ((λ s x. x), (λ x. x), (λ x. x), λ x. x)).shows_whole c.args.input.now b.told c.args.number c.args.passed.now b.first
+      (next_read g.M.PassMachine.drawing (IsDrawnBySome g.M.PassMachine) (g.met.M.PassMachine g.world.𝓛 g.world.𝓜 g.world.𝓡 ((λ s x. x), (λ x. x), (λ x. x), λ x. x)).shows_whole c.args.input.now b.known c.args.number c.args.passed.now b.first
       (g.M.PassMachine.state c.args.machine.now) c.args.recency.now c.requires.input c.requires.goes_on c.requires.followed
       (walk_state g.D.Folder c.args.input.now.names.store.now c.args.folder.now (b.kept ∷ (g.M.PassMachine.state c.args.machine.now).files)
       (g.O.Sink.held c.args.out.now) (g.O.Sink.faults c.args.out.now)) c.requires.stands.1

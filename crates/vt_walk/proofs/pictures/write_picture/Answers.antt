@@ -1,5 +1,5 @@
 use Rattle.std.proofs.Common.{refl, inl, arith}
-use Rattle.vt_outside.proofs.Untold.{OnErr-all}
+use Rattle.vt_outside.proofs.UnknownContents.{OnErr-all}
 use Rattle.vt_walk.proofs.pictures.write_picture.Goals as goal
 
 pub returns-in_err-name-clause-asked : goal.returns-in_err-name-clause-asked

@@ -1,6 +1,6 @@
 use Rattle.std.proofs.Common.{refl}
 use Rattle.std.specs.Prelude.{is_err}
-use Rattle.vt_outside.proofs.Untold.{OnErr-all}
+use Rattle.vt_outside.proofs.UnknownContents.{OnErr-all}
 use Rattle.vt_walk.proofs.pinned.place_page.Goals as goal
 
 pub returns-in_err-read_tile-clause-faults : goal.returns-in_err-read_tile-clause-faults

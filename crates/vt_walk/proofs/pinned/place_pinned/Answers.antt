@@ -1,10 +1,10 @@
 use Rattle.std.proofs.Common.{[], ◌≡◌, ◌+◌, ◌-◌, refl, ap, ◌∙◌, arith}
-use Rattle.vt_outside.proofs.Untold.{OnErr-all}
+use Rattle.vt_outside.proofs.UnknownContents.{OnErr-all}
 use Rattle.vt_pages.specs.Pages.{pages_of}
 use Rattle.vt_walk_decisions.specs.Machines.{MachineState}
 use Rattle.vt_walk.specs.Reads.{AreAskedAtMostFor, lost_reads}
 use Rattle.vt_walk.specs.Placing.{with_tiles}
-use Rattle.vt_walk.proofs.Asks.{told_same}
+use Rattle.vt_walk.proofs.Asks.{known_same}
 use Rattle.vt_walk.proofs.Placed.{next_pinned, early_pinned, next_placed, asked_at, all_asked, last_asked, more_tiles, none_lost, last_lost}
 use Rattle.vt_walk.proofs.pinned.place_pinned.Goals as goal
 
@@ -139,22 +139,22 @@ returns-clause-name g c = c.loop-frame.invariant.name
 
 pub returns-in_err-reserve-clause-part : goal.returns-in_err-reserve-clause-part
 returns-in_err-reserve-clause-part g c = OnErr-all c.from_residual.result _
-    (told_same (AreAskedAtMostFor c.args.geometry.now c.args.store.now.depth c.args.pinned []) (g.F.File.asked c.args.store.now.file)
+    (known_same (AreAskedAtMostFor c.args.geometry.now c.args.store.now.depth c.args.pinned []) (g.F.File.asked c.args.store.now.file)
     (g.F.File.asked c.reserve.new.self.file) c.reserve.ensures.asked (λ places at len. omega arith))
 
 pub returns-in_err-reserve-clause-lost : goal.returns-in_err-reserve-clause-lost
 returns-in_err-reserve-clause-lost g c =
-    told_same (λ old new. lost_reads c.args.geometry.now c.args.store.now.depth c.args.pinned new
+    known_same (λ old new. lost_reads c.args.geometry.now c.args.store.now.depth c.args.pinned new
     ≡ lost_reads c.args.geometry.now c.args.store.now.depth c.args.pinned old) (g.F.File.asked c.args.store.now.file)
     (g.F.File.asked c.reserve.new.self.file) c.reserve.ensures.asked (λ places. refl)
 
 pub returns-in_err-buffer-clause-part : goal.returns-in_err-buffer-clause-part
 returns-in_err-buffer-clause-part g c = OnErr-all c.from_residual-in_err-buffer.result _
-    (told_same (AreAskedAtMostFor c.args.geometry.now c.args.store.now.depth c.args.pinned []) (g.F.File.asked c.args.store.now.file)
+    (known_same (AreAskedAtMostFor c.args.geometry.now c.args.store.now.depth c.args.pinned []) (g.F.File.asked c.args.store.now.file)
     (g.F.File.asked c.reserve.new.self.file) c.reserve.ensures.asked (λ places at len. omega arith))
 
 pub returns-in_err-buffer-clause-lost : goal.returns-in_err-buffer-clause-lost
 returns-in_err-buffer-clause-lost g c =
-    told_same (λ old new. lost_reads c.args.geometry.now c.args.store.now.depth c.args.pinned new
+    known_same (λ old new. lost_reads c.args.geometry.now c.args.store.now.depth c.args.pinned new
     ≡ lost_reads c.args.geometry.now c.args.store.now.depth c.args.pinned old) (g.F.File.asked c.args.store.now.file)
     (g.F.File.asked c.reserve.new.self.file) c.reserve.ensures.asked (λ places. refl)

@@ -22,7 +22,7 @@ returns-in_err-recency-clause-walked g c =
 pub walk_on-requires-clause-stands : goal.walk_on-requires-clause-stands
 walk_on-requires-clause-stands g c κs within = (
   (record {
-    told = g.D.File.File.bytes c.args.store.now.file;
+    known = g.D.File.File.bytes c.args.store.now.file;
     kept = file_state g.D.File.File
         c.begin.new.store.file;
     first = (walk_state g.D.Folder c.args.input.now.names.store.now c.args.folder.now
@@ -34,7 +34,7 @@ walk_on-requires-clause-stands g c κs within = (
 
 pub returns-clause-walked : goal.returns-clause-walked
 returns-clause-walked g c = c.walk_on.ensures.walked (record {
-  told = g.D.File.File.bytes c.args.store.now.file;
+  known = g.D.File.File.bytes c.args.store.now.file;
   kept = file_state g.D.File.File
       c.begin.new.store.file;
   first = (walk_state g.D.Folder c.args.input.now.names.store.now c.args.folder.now

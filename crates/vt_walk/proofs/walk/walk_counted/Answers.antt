@@ -38,9 +38,9 @@ pub returns-clause-walked : goal.returns-clause-walked
 returns-clause-walked g c =
     let drawn = IsDrawnBySome g.M.PassMachine in
     let name = c.args.names.now.store.now in
-    let told = g.D.File.File.bytes c.args.store.file in
+    let known = g.D.File.File.bytes c.args.store.file in
     let given = λ (s : Shape) (d : ℕ) (m : Mode). given_by g.M.PassMachine.drawing
-    (scene_of s d c.args.path.now) c.args.settings.now m told (names_of c.args.names.now) in
+    (scene_of s d c.args.path.now) c.args.settings.now m known (names_of c.args.names.now) in
     let first = walk_state g.D.Folder name c.args.folder.now (file_state g.D.File.File c.args.store.file ∷ []) (g.O.Sink.held c.args.out.now)
     (g.O.Sink.faults c.args.out.now) in
     let last = walk_state g.D.Folder name c.close.new.self [] (g.O.Sink.held c.walk_store-walked.new.out) (g.O.Sink.faults c.walk_store-walked.new.out) in

@@ -8,13 +8,13 @@ use Rattle.vt_walk.specs.States.{AreOpen}
 use Rattle.vt_walk.specs.Closing.{with_closed, AreOtherNamesAsBefore}
 use Rattle.vt_walk.specs.WalkInputs.{given_of}
 use Rattle.vt_walk.specs.DrawnBy.{IsDrawnBySome}
-use Rattle.vt_walk.proofs.Closings.{closed_tells, others_closed, same_open}
-use Rattle.vt_walk.proofs.Concluding.{open_told, one_open, machine_closed}
+use Rattle.vt_walk.proofs.Closings.{closed_knows, others_closed, same_open}
+use Rattle.vt_walk.proofs.Concluding.{open_known, one_open, machine_closed}
 use Rattle.vt_walk.proofs.walk.walk_machine.Goals as goal
 
-pub walk_all-walked-requires-clause-tell : goal.walk_all-walked-requires-clause-tell
-walk_all-walked-requires-clause-tell g c κs within =
-    open_told 1 c.args.input.now.settings.crew.loaders c.args.input.now.names.store.now (g.D.Folder.asked c.args.folder.now)
+pub walk_all-walked-requires-clause-all_known : goal.walk_all-walked-requires-clause-all_known
+walk_all-walked-requires-clause-all_known g c κs within =
+    open_known 1 c.args.input.now.settings.crew.loaders c.args.input.now.names.store.now (g.D.Folder.asked c.args.folder.now)
     (file_state g.D.File.File c.args.store.now.file) (g.M.PassMachine.state c.args.machine).files c.requires.opened c.requires.loaders
 
 pub returns-clause-walked : goal.returns-clause-walked
@@ -50,13 +50,13 @@ returns-clause-others g c =
 
 pub returns-clause-opened : goal.returns-clause-opened
 returns-clause-opened g c =
-    let tell : is_some (g.D.Folder.asked c.close_stores.new.folder) ≡ is_some (g.D.Folder.asked c.args.folder.now) =
+    let all_known : is_some (g.D.Folder.asked c.close_stores.new.folder) ≡ is_some (g.D.Folder.asked c.args.folder.now) =
     ap (λ (a : Option Asked). is_some a) c.close_stores.ensures.asked
-    ∙ closed_tells (files_of g.D.File.File c.end.result.elements) (g.D.Folder.asked c.walk_all-walked.new.folder)
+    ∙ closed_knows (files_of g.D.File.File c.end.result.elements) (g.D.Folder.asked c.walk_all-walked.new.folder)
     ∙ ap (λ (a : Option Asked). is_some a) c.walk_all-walked.ensures.asked in
     one_open 1 c.args.input.now.names.store.now (g.D.Folder.asked c.args.folder.now) (g.D.Folder.asked c.close_stores.new.folder)
     (file_state g.D.File.File c.args.store.now.file) (file_state g.D.File.File c.walk_all-walked.new.store.file) c.requires.opened
-    c.walk_all-walked.ensures.store tell
+    c.walk_all-walked.ensures.store all_known
 
 pub returns-clause-counted : goal.returns-clause-counted
 returns-clause-counted g c = c.walk_all-walked.ensures.counted

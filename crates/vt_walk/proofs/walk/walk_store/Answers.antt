@@ -6,13 +6,13 @@ use Rattle.vt_walk.specs.States.{walk_state}
 use Rattle.vt_walk.specs.WalkInputs.{given_of}
 use Rattle.vt_walk.specs.WalkSteps.{LeftByRefusal}
 use Rattle.vt_walk.specs.DrawnBy.{IsDrawnBySome}
-use Rattle.vt_walk.proofs.Concluding.{told_there, opened_first, refused_first}
+use Rattle.vt_walk.proofs.Concluding.{known_there, opened_first, refused_first}
 use Rattle.vt_walk.proofs.walk.walk_store.Goals as goal
 
 pub open_loaders-requires-clause-there : goal.open_loaders-requires-clause-there
 open_loaders-requires-clause-there g c κs within =
-    told_there (g.D.Folder.files c.args.folder.now) c.args.input.now.names.store.now
-    (g.D.File.File.bytes c.args.store.now.file) c.requires.bytes c.requires.tells
+    known_there (g.D.Folder.files c.args.folder.now) c.args.input.now.names.store.now
+    (g.D.File.File.bytes c.args.store.now.file) c.requires.bytes c.requires.known_too
 
 pub returns-in-Ok-clause-walked : goal.returns-in-Ok-clause-walked
 returns-in-Ok-clause-walked g c =

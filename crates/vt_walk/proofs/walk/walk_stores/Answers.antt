@@ -10,16 +10,16 @@ use Rattle.vt_walk.specs.Closing.{with_closed}
 use Rattle.vt_walk.specs.WalkInputs.{given_of}
 use Rattle.vt_walk.specs.WalkSteps.{LeftByRefusal}
 use Rattle.vt_walk.specs.DrawnBy.{IsDrawnBySome}
-use Rattle.vt_walk.proofs.Closings.{closed_tells, others_closed}
+use Rattle.vt_walk.proofs.Closings.{closed_knows, others_closed}
 use Rattle.vt_walk.proofs.Concluding.{one_open, stores_closed}
 use Rattle.vt_walk.proofs.walk.walk_stores.Goals as goal
 
 pub walk_machine-requires-clause-begins : goal.walk_machine-requires-clause-begins
 walk_machine-requires-clause-begins g c κs within = record {
   setup = c.in-Ok.ensures.begins.setup
-      ∙ ap (λ (told : Option (List ℕ)). setup_of c.args.input.now.geometry.now c.args.input.now.depth c.args.input.now.path.now
-      c.args.input.now.settings.frames c.args.input.now.settings.crew told)
-      c.requires.stores.told_is;
+      ∙ ap (λ (known : Option (List ℕ)). setup_of c.args.input.now.geometry.now c.args.input.now.depth c.args.input.now.path.now
+      c.args.input.now.settings.frames c.args.input.now.settings.crew known)
+      c.requires.stores.known_is;
   journal = c.in-Ok.ensures.begins.journal;
 }
 
@@ -60,12 +60,12 @@ returns-in-Err-clause-walked g c =
 
 pub returns-in-Err-clause-opened : goal.returns-in-Err-clause-opened
 returns-in-Err-clause-opened g c =
-    let tell : is_some (g.D.Folder.asked c.close_stores.new.folder) ≡ is_some (g.D.Folder.asked c.args.folder.now) =
+    let all_known : is_some (g.D.Folder.asked c.close_stores.new.folder) ≡ is_some (g.D.Folder.asked c.args.folder.now) =
     ap (λ (a : Option Asked). is_some a) c.close_stores.ensures.asked
-    ∙ closed_tells (files_of g.D.File.File c.in-Err.stores.elements) (g.D.Folder.asked c.args.folder.now) in
+    ∙ closed_knows (files_of g.D.File.File c.in-Err.stores.elements) (g.D.Folder.asked c.args.folder.now) in
     let kept = file_state g.D.File.File c.args.store.now.file in
     one_open 1 c.args.input.now.names.store.now (g.D.Folder.asked c.args.folder.now) (g.D.Folder.asked c.close_stores.new.folder) kept kept
-    c.requires.opened (record { name = refl; tell = refl }) tell
+    c.requires.opened (record { name = refl; all_known = refl }) all_known
 
 pub returns-in-Err-clause-others : goal.returns-in-Err-clause-others
 returns-in-Err-clause-others g c =

@@ -12,13 +12,13 @@ use Rattle.vt_walk.proofs.walk_steps.end_step.Goals as goal
 
 pub returns-then-not-is_finished-clause-ended : goal.returns-then-not-is_finished-clause-ended
 returns-then-not-is_finished-clause-ended g c = λ b at. same_picture g.M.PassMachine.drawing (IsDrawnBySome g.M.PassMachine) g.met.M.PassMachine.shows_whole (input_scene c.args.input.now) c.args.input.now.settings
-    c.args.input.now.mode b.told (names_of c.args.input.now.names)
+    c.args.input.now.mode b.known (names_of c.args.input.now.names)
     c.args.number c.args.passed b.first (g.M.PassMachine.state c.args.machine.now) c.args.recency.now
     (walk_state g.D.Folder c.args.input.now.names.store.now c.args.folder.now (b.kept ∷ (g.M.PassMachine.state c.args.machine.now).files)
     (g.O.Sink.held c.args.out.now) (g.O.Sink.faults c.args.out.now))
     at c.requires.goes_on.none_lost (room_left c.args.input.now c.args.passed c.requires.input c.requires.goes_on)
-    (subst (λ (b : Bool). MatchBool b (IsEnd c.args.input.now.mode c.args.passed.loads_nothing c.args.passed.outlook.plan.elements)
-    (IsEnd c.args.input.now.mode c.args.passed.loads_nothing c.args.passed.outlook.plan.elements → ⊥)) c.if-not-is_finished.true c.is_finished.ensures)
+    (subst (λ (b : Bool). MatchBool b (IsEnd c.args.input.now.mode c.args.passed.loads_nothing c.args.passed.next_plan.plan.elements)
+    (IsEnd c.args.input.now.mode c.args.passed.loads_nothing c.args.passed.next_plan.plan.elements → ⊥)) c.if-not-is_finished.true c.is_finished.ensures)
 
 pub write_picture-requires-clause-few : goal.write_picture-requires-clause-few
 write_picture-requires-clause-few g c κs within =
@@ -27,7 +27,7 @@ write_picture-requires-clause-few g c κs within =
 pub write_picture-requires-clause-count : goal.write_picture-requires-clause-count
 write_picture-requires-clause-count g c κs within = rows_count g.M.PassMachine.drawing
     (IsDrawnBySome g.M.PassMachine) g.met.M.PassMachine.shows_whole (input_scene c.args.input.now) c.args.input.now.settings c.args.input.now.mode
-    c.requires.stands.0.told (names_of c.args.input.now.names)
+    c.requires.stands.0.known (names_of c.args.input.now.names)
     c.args.number c.args.passed c.requires.stands.0.first (g.M.PassMachine.state c.args.machine.now) c.args.recency.now
     (walk_state g.D.Folder c.args.input.now.names.store.now c.args.folder.now
     (c.requires.stands.0.kept ∷ (g.M.PassMachine.state c.args.machine.now).files) (g.O.Sink.held c.args.out.now) (g.O.Sink.faults c.args.out.now))
@@ -36,7 +36,7 @@ write_picture-requires-clause-count g c κs within = rows_count g.M.PassMachine.
 pub write_picture-requires-clause-full : goal.write_picture-requires-clause-full
 write_picture-requires-clause-full g c κs within = rows_full g.M.PassMachine.drawing
     (IsDrawnBySome g.M.PassMachine) g.met.M.PassMachine.shows_whole (input_scene c.args.input.now) c.args.input.now.settings c.args.input.now.mode
-    c.requires.stands.0.told (names_of c.args.input.now.names)
+    c.requires.stands.0.known (names_of c.args.input.now.names)
     c.args.number c.args.passed c.requires.stands.0.first (g.M.PassMachine.state c.args.machine.now) c.args.recency.now
     (walk_state g.D.Folder c.args.input.now.names.store.now c.args.folder.now
     (c.requires.stands.0.kept ∷ (g.M.PassMachine.state c.args.machine.now).files) (g.O.Sink.held c.args.out.now) (g.O.Sink.faults c.args.out.now))
@@ -47,15 +47,15 @@ returns-in_err-write_picture-clause-ended g c =
     let p = err_from_is_err_and c.from_residual.result c.from_residual.ensures.1 in
     λ b at. rw p.1 (picture_broke g.M.PassMachine.drawing
     (IsDrawnBySome g.M.PassMachine) g.met.M.PassMachine.shows_whole (input_scene c.args.input.now) c.args.input.now.settings
-    c.args.input.now.mode b.told (names_of c.args.input.now.names)
+    c.args.input.now.mode b.known (names_of c.args.input.now.names)
     c.args.number c.args.passed b.first (g.M.PassMachine.state c.args.machine.now) c.args.recency.now c.args.input.now.names.store.now b.kept
     (g.D.Folder.files c.args.folder.now) (g.D.Folder.files c.write_picture.new.folder)
     (g.D.Folder.asked c.args.folder.now) (g.D.Folder.asked c.write_picture.new.folder) (g.D.Folder.faults c.args.folder.now)
     (g.D.Folder.faults c.write_picture.new.folder)
     (g.O.Sink.held c.args.out.now) (g.O.Sink.held c.args.out.now) (g.O.Sink.faults c.args.out.now) (g.O.Sink.faults c.args.out.now)
     (g.M.PassMachine.state c.args.machine.now).files (inl refl) _ p.0 at c.requires.goes_on.none_lost (room_left c.args.input.now c.args.passed c.requires.input c.requires.goes_on)
-    (subst (λ (b : Bool). MatchBool b (IsEnd c.args.input.now.mode c.args.passed.loads_nothing c.args.passed.outlook.plan.elements)
-    (IsEnd c.args.input.now.mode c.args.passed.loads_nothing c.args.passed.outlook.plan.elements
+    (subst (λ (b : Bool). MatchBool b (IsEnd c.args.input.now.mode c.args.passed.loads_nothing c.args.passed.next_plan.plan.elements)
+    (IsEnd c.args.input.now.mode c.args.passed.loads_nothing c.args.passed.next_plan.plan.elements
     → ⊥)) c.if-not-is_finished.false c.is_finished.ensures) c.in_err-write_picture.ensures.part refl c.in_err-write_picture.ensures.asked
     c.in_err-write_picture.ensures.faults (omega arith)
     (λ is. c.in_err-write_picture.ensures.failed (ap Err is)) p.2)
@@ -65,15 +65,15 @@ returns-in_err-put_picture_line-clause-ended g c =
     let p = err_from_is_err_and c.from_residual-in_err-put_picture_line.result c.from_residual-in_err-put_picture_line.ensures.1 in
     λ b at. rw p.1 (line_broke g.M.PassMachine.drawing
     (IsDrawnBySome g.M.PassMachine) g.met.M.PassMachine.shows_whole (input_scene c.args.input.now) c.args.input.now.settings
-    c.args.input.now.mode b.told (names_of c.args.input.now.names)
+    c.args.input.now.mode b.known (names_of c.args.input.now.names)
     c.args.number c.args.passed b.first (g.M.PassMachine.state c.args.machine.now) c.args.recency.now c.args.input.now.names.store.now b.kept
     (g.D.Folder.files c.args.folder.now) (g.D.Folder.files c.write_picture.new.folder)
     (g.D.Folder.asked c.args.folder.now) (g.D.Folder.asked c.write_picture.new.folder) (g.D.Folder.faults c.args.folder.now)
     (g.D.Folder.faults c.write_picture.new.folder)
     (g.O.Sink.held c.args.out.now) (g.O.Sink.held c.put_picture_line.new.out) (g.O.Sink.faults c.args.out.now) (g.O.Sink.faults c.put_picture_line.new.out)
     (g.M.PassMachine.state c.args.machine.now).files (inl refl) _ p.0 at c.requires.goes_on.none_lost (room_left c.args.input.now c.args.passed c.requires.input c.requires.goes_on)
-    (subst (λ (b : Bool). MatchBool b (IsEnd c.args.input.now.mode c.args.passed.loads_nothing c.args.passed.outlook.plan.elements)
-    (IsEnd c.args.input.now.mode c.args.passed.loads_nothing c.args.passed.outlook.plan.elements
+    (subst (λ (b : Bool). MatchBool b (IsEnd c.args.input.now.mode c.args.passed.loads_nothing c.args.passed.next_plan.plan.elements)
+    (IsEnd c.args.input.now.mode c.args.passed.loads_nothing c.args.passed.next_plan.plan.elements
     → ⊥)) c.if-not-is_finished.false c.is_finished.ensures) c.in_ok-write_picture.ensures.whole c.in_err-put_picture_line.ensures.part
     c.in_ok-write_picture.ensures.asked c.in_ok-write_picture.ensures.faults
     c.in_err-put_picture_line.ensures.faults (λ is. c.in_err-put_picture_line.ensures.failed (ap Err is)) p.2)
@@ -85,22 +85,22 @@ overflow_add-result g c =
 pub returns-clause-ended : goal.returns-clause-ended
 returns-clause-ended g c = λ b at. next_picture g.M.PassMachine.drawing
     (IsDrawnBySome g.M.PassMachine) g.met.M.PassMachine.shows_whole (input_scene c.args.input.now) c.args.input.now.settings c.args.input.now.mode
-    b.told (names_of c.args.input.now.names)
+    b.known (names_of c.args.input.now.names)
     c.args.number c.args.passed b.first (g.M.PassMachine.state c.args.machine.now) c.args.recency.now c.args.input.now.names.store.now b.kept
     (g.D.Folder.files c.args.folder.now) (g.D.Folder.files c.write_picture.new.folder)
     (g.D.Folder.asked c.args.folder.now) (g.D.Folder.asked c.write_picture.new.folder) (g.D.Folder.faults c.args.folder.now)
     (g.D.Folder.faults c.write_picture.new.folder)
     (g.O.Sink.held c.args.out.now) (g.O.Sink.held c.put_picture_line.new.out) (g.O.Sink.faults c.args.out.now) (g.O.Sink.faults c.put_picture_line.new.out)
     at c.requires.goes_on.none_lost (room_left c.args.input.now c.args.passed c.requires.input c.requires.goes_on)
-    (subst (λ (b : Bool). MatchBool b (IsEnd c.args.input.now.mode c.args.passed.loads_nothing c.args.passed.outlook.plan.elements)
-    (IsEnd c.args.input.now.mode c.args.passed.loads_nothing c.args.passed.outlook.plan.elements
+    (subst (λ (b : Bool). MatchBool b (IsEnd c.args.input.now.mode c.args.passed.loads_nothing c.args.passed.next_plan.plan.elements)
+    (IsEnd c.args.input.now.mode c.args.passed.loads_nothing c.args.passed.next_plan.plan.elements
     → ⊥)) c.if-not-is_finished.false c.is_finished.ensures) c.in_ok-write_picture.ensures.whole c.in_ok-put_picture_line.ensures.whole
     c.in_ok-write_picture.ensures.asked c.in_ok-write_picture.ensures.faults
     c.in_ok-put_picture_line.ensures.faults c.new.result c.new.ensures
 
 pub returns-then-not-is_finished-clause-kept : goal.returns-then-not-is_finished-clause-kept
 returns-then-not-is_finished-clause-kept g c = record {
-  same = record { names = refl; tell = refl };
+  same = record { names = refl; all_known = refl };
   asked = refl;
   faults = omega arith;
   out_faults = omega arith;
@@ -108,7 +108,7 @@ returns-then-not-is_finished-clause-kept g c = record {
 
 pub returns-in_err-write_picture-clause-kept : goal.returns-in_err-write_picture-clause-kept
 returns-in_err-write_picture-clause-kept g c = record {
-  same = record { names = refl; tell = refl };
+  same = record { names = refl; all_known = refl };
   asked = c.write_picture.ensures.asked;
   faults = c.write_picture.ensures.faults;
   out_faults = omega arith;
@@ -116,7 +116,7 @@ returns-in_err-write_picture-clause-kept g c = record {
 
 pub returns-in_err-put_picture_line-clause-kept : goal.returns-in_err-put_picture_line-clause-kept
 returns-in_err-put_picture_line-clause-kept g c = record {
-  same = record { names = refl; tell = refl };
+  same = record { names = refl; all_known = refl };
   asked = c.write_picture.ensures.asked;
   faults = c.write_picture.ensures.faults;
   out_faults = c.put_picture_line.ensures.faults;
@@ -124,7 +124,7 @@ returns-in_err-put_picture_line-clause-kept g c = record {
 
 pub returns-clause-kept : goal.returns-clause-kept
 returns-clause-kept g c = record {
-  same = record { names = refl; tell = refl };
+  same = record { names = refl; all_known = refl };
   asked = c.write_picture.ensures.asked;
   faults = c.write_picture.ensures.faults;
   out_faults = c.put_picture_line.ensures.faults;

@@ -19,9 +19,9 @@ pub draw_next-requires-clause-may : goal.draw_next-requires-clause-may
 draw_next-requires-clause-may g c κs within =
     let b = c.requires.stands.0 in
     let s = c.in_ok-step.ensures.ended b c.requires.stands.1 in (
-      b.told,
+      b.known,
       s.run,
-      may_turn (IsDrawnBySome g.M.PassMachine) (given_of g.M.PassMachine.drawing c.args.input.now b.told) b.first (c.args.number + 1)
+      may_turn (IsDrawnBySome g.M.PassMachine) (given_of g.M.PassMachine.drawing c.args.input.now b.known) b.first (c.args.number + 1)
           c.in_ok-step.step
           (walk_state g.D.Folder c.args.input.now.names.store.now c.end_step.new.folder (b.kept ∷ (g.M.PassMachine.state c.args.machine.now).files)
           (g.O.Sink.held c.end_step.new.out) (g.O.Sink.faults c.end_step.new.out)) (g.M.PassMachine.state c.args.machine.now) c.args.recency.now s,
@@ -31,14 +31,14 @@ pub returns-in_err-step-clause-taken : goal.returns-in_err-step-clause-taken
 returns-in_err-step-clause-taken g c =
     let p = err_from_is_err_and c.from_residual.result c.from_residual.ensures.1 in
     λ b at. rw p.1 (subst (LeftByRefusal (IsDrawnBySome g.M.PassMachine)
-    (given_of g.M.PassMachine.drawing c.args.input.now b.told) b.first
+    (given_of g.M.PassMachine.drawing c.args.input.now b.known) b.first
     (walk_state g.D.Folder c.args.input.now.names.store.now c.end_step.new.folder (b.kept ∷ (g.M.PassMachine.state c.args.machine.now).files)
     (g.O.Sink.held c.end_step.new.out) (g.O.Sink.faults c.end_step.new.out))) (sym p.2) (c.in_err-step.ensures.ended b at))
 
 pub returns-in_err-next-clause-taken : goal.returns-in_err-next-clause-taken
 returns-in_err-next-clause-taken g c =
     let p = err_from_is_err_and c.from_residual-in_err-next.result c.from_residual-in_err-next.ensures.1 in
-    λ b at. rw p.1 (pass_broke (IsDrawnBySome g.M.PassMachine) (given_of g.M.PassMachine.drawing c.args.input.now b.told) (c.args.number + 1)
+    λ b at. rw p.1 (pass_broke (IsDrawnBySome g.M.PassMachine) (given_of g.M.PassMachine.drawing c.args.input.now b.known) (c.args.number + 1)
     c.in_ok-step.step b.first c.args.input.now.names.store.now b.kept (g.O.Sink.held c.end_step.new.out) (g.O.Sink.faults c.end_step.new.out)
     (g.D.Folder.files c.end_step.new.folder) (g.D.Folder.asked c.end_step.new.folder) (g.D.Folder.faults c.end_step.new.folder)
     (g.M.PassMachine.state c.args.machine.now) (g.M.PassMachine.state c.draw_next.new.machine) c.args.recency.now c.draw_next.new.recency
@@ -49,16 +49,16 @@ returns-clause-taken g c = λ b at.
     let s = c.in_ok-step.ensures.ended b at in
     let now = walk_state g.D.Folder c.args.input.now.names.store.now c.end_step.new.folder (b.kept ∷ (g.M.PassMachine.state c.args.machine.now).files)
     (g.O.Sink.held c.end_step.new.out) (g.O.Sink.faults c.end_step.new.out) in
-    next_stands (IsDrawnBySome g.M.PassMachine) (given_of g.M.PassMachine.drawing c.args.input.now b.told) b.first (c.args.number + 1)
+    next_stands (IsDrawnBySome g.M.PassMachine) (given_of g.M.PassMachine.drawing c.args.input.now b.known) b.first (c.args.number + 1)
     c.in_ok-step.step (λ files. state_by g.D.Folder g.O.Sink c.args.input.now.names.store.now c.end_step.new.folder c.end_step.new.out (b.kept ∷ files))
     (g.M.PassMachine.state c.args.machine.now) (g.M.PassMachine.state c.draw_next.new.machine) c.args.recency.now c.draw_next.new.recency s
-    c.in_ok-next.next (c.in_ok-next.ensures.next b.told s.run
-    (may_turn (IsDrawnBySome g.M.PassMachine) (given_of g.M.PassMachine.drawing c.args.input.now b.told) b.first (c.args.number + 1)
+    c.in_ok-next.next (c.in_ok-next.ensures.next b.known s.run
+    (may_turn (IsDrawnBySome g.M.PassMachine) (given_of g.M.PassMachine.drawing c.args.input.now b.known) b.first (c.args.number + 1)
     c.in_ok-step.step now (g.M.PassMachine.state c.args.machine.now) c.args.recency.now s))
 
 pub returns-in_err-step-clause-kept : goal.returns-in_err-step-clause-kept
 returns-in_err-step-clause-kept g c = record {
-  same = record { names = refl; tell = refl };
+  same = record { names = refl; all_known = refl };
   asked = c.end_step.ensures.kept.asked;
   faults = c.end_step.ensures.kept.faults;
   out_faults = c.end_step.ensures.kept.out_faults;

@@ -16,13 +16,13 @@ use Rattle.vt_walk.proofs.walk_steps.take_steps.Goals as goal
 pub draw_next-requires-clause-may : goal.draw_next-requires-clause-may
 draw_next-requires-clause-may g c κs within =
     let b = c.requires.stands.0 in
-    let s = first_at (IsDrawnBySome g.M.PassMachine) (given_of g.M.PassMachine.drawing c.args.input.now b.told) b.first
+    let s = first_at (IsDrawnBySome g.M.PassMachine) (given_of g.M.PassMachine.drawing c.args.input.now b.known) b.first
     (walk_state g.D.Folder c.args.input.now.names.store.now c.args.folder.now (b.kept ∷ (g.M.PassMachine.state c.args.machine.now).files)
     (g.O.Sink.held c.args.out.now) (g.O.Sink.faults c.args.out.now)) (g.M.PassMachine.state c.args.machine.now) c.args.recency.now
     (record { picture = 0; batch = c.new.result; tally = c.new-2.result; reads = c.args.input.now.pinned }) c.requires.stands.1 refl c.new.ensures c.new-2.ensures c.requires.input.pages in (
-      b.told,
+      b.known,
       s.run,
-      may_turn (IsDrawnBySome g.M.PassMachine) (given_of g.M.PassMachine.drawing c.args.input.now b.told) b.first 1
+      may_turn (IsDrawnBySome g.M.PassMachine) (given_of g.M.PassMachine.drawing c.args.input.now b.known) b.first 1
           (record { picture = 0; batch = c.new.result; tally = c.new-2.result; reads = c.args.input.now.pinned })
           (walk_state g.D.Folder c.args.input.now.names.store.now c.args.folder.now (b.kept ∷ (g.M.PassMachine.state c.args.machine.now).files)
           (g.O.Sink.held c.args.out.now) (g.O.Sink.faults c.args.out.now)) (g.M.PassMachine.state c.args.machine.now) c.args.recency.now s,
@@ -31,11 +31,11 @@ draw_next-requires-clause-may g c κs within =
 pub returns-in_err-next-clause-walked : goal.returns-in_err-next-clause-walked
 returns-in_err-next-clause-walked g c =
     let p = err_from_is_err_and c.from_residual.result c.from_residual.ensures.1 in
-    λ b at. rw p.1 (pass_broke (IsDrawnBySome g.M.PassMachine) (given_of g.M.PassMachine.drawing c.args.input.now b.told) 1
+    λ b at. rw p.1 (pass_broke (IsDrawnBySome g.M.PassMachine) (given_of g.M.PassMachine.drawing c.args.input.now b.known) 1
     (record { picture = 0; batch = c.new.result; tally = c.new-2.result; reads = c.args.input.now.pinned }) b.first c.args.input.now.names.store.now b.kept
     (g.O.Sink.held c.args.out.now) (g.O.Sink.faults c.args.out.now) (g.D.Folder.files c.args.folder.now) (g.D.Folder.asked c.args.folder.now)
     (g.D.Folder.faults c.args.folder.now) (g.M.PassMachine.state c.args.machine.now) (g.M.PassMachine.state c.draw_next.new.machine)
-    c.args.recency.now c.draw_next.new.recency (first_at (IsDrawnBySome g.M.PassMachine) (given_of g.M.PassMachine.drawing c.args.input.now b.told) b.first
+    c.args.recency.now c.draw_next.new.recency (first_at (IsDrawnBySome g.M.PassMachine) (given_of g.M.PassMachine.drawing c.args.input.now b.known) b.first
     (walk_state g.D.Folder c.args.input.now.names.store.now c.args.folder.now (b.kept ∷ (g.M.PassMachine.state c.args.machine.now).files)
     (g.O.Sink.held c.args.out.now) (g.O.Sink.faults c.args.out.now)) (g.M.PassMachine.state c.args.machine.now) c.args.recency.now
     (record { picture = 0; batch = c.new.result; tally = c.new-2.result; reads = c.args.input.now.pinned }) at refl c.new.ensures c.new-2.ensures c.requires.input.pages) c.in_err-next.ensures.more
@@ -44,34 +44,34 @@ returns-in_err-next-clause-walked g c =
 pub loop-number-init : goal.loop-number-init
 loop-number-init g c =
     let b = c.requires.stands.0 in
-    let s = first_at (IsDrawnBySome g.M.PassMachine) (given_of g.M.PassMachine.drawing c.args.input.now b.told) b.first
+    let s = first_at (IsDrawnBySome g.M.PassMachine) (given_of g.M.PassMachine.drawing c.args.input.now b.known) b.first
     (walk_state g.D.Folder c.args.input.now.names.store.now c.args.folder.now (b.kept ∷ (g.M.PassMachine.state c.args.machine.now).files)
     (g.O.Sink.held c.args.out.now) (g.O.Sink.faults c.args.out.now)) (g.M.PassMachine.state c.args.machine.now) c.args.recency.now
     (record { picture = 0; batch = c.new.result; tally = c.new-2.result; reads = c.args.input.now.pinned }) c.requires.stands.1 refl c.new.ensures c.new-2.ensures c.requires.input.pages in
     record {
       some = (
         b,
-        next_stands (IsDrawnBySome g.M.PassMachine) (given_of g.M.PassMachine.drawing c.args.input.now b.told) b.first 1
+        next_stands (IsDrawnBySome g.M.PassMachine) (given_of g.M.PassMachine.drawing c.args.input.now b.known) b.first 1
             (record { picture = 0; batch = c.new.result; tally = c.new-2.result; reads = c.args.input.now.pinned })
             (λ files. state_by g.D.Folder g.O.Sink c.args.input.now.names.store.now c.args.folder.now c.args.out.now (b.kept ∷ files))
             (g.M.PassMachine.state c.args.machine.now) (g.M.PassMachine.state c.draw_next.new.machine) c.args.recency.now c.draw_next.new.recency s
-            c.in_ok-next.next (c.in_ok-next.ensures.next b.told s.run
-            (may_turn (IsDrawnBySome g.M.PassMachine) (given_of g.M.PassMachine.drawing c.args.input.now b.told) b.first 1
+            c.in_ok-next.next (c.in_ok-next.ensures.next b.known s.run
+            (may_turn (IsDrawnBySome g.M.PassMachine) (given_of g.M.PassMachine.drawing c.args.input.now b.known) b.first 1
             (record { picture = 0; batch = c.new.result; tally = c.new-2.result; reads = c.args.input.now.pinned })
             (walk_state g.D.Folder c.args.input.now.names.store.now c.args.folder.now (b.kept ∷ (g.M.PassMachine.state c.args.machine.now).files)
             (g.O.Sink.held c.args.out.now) (g.O.Sink.faults c.args.out.now)) (g.M.PassMachine.state c.args.machine.now) c.args.recency.now s)),
       );
       each = λ b at.
-          let s = first_at (IsDrawnBySome g.M.PassMachine) (given_of g.M.PassMachine.drawing c.args.input.now b.told) b.first
+          let s = first_at (IsDrawnBySome g.M.PassMachine) (given_of g.M.PassMachine.drawing c.args.input.now b.known) b.first
           (walk_state g.D.Folder c.args.input.now.names.store.now c.args.folder.now (b.kept ∷ (g.M.PassMachine.state c.args.machine.now).files)
           (g.O.Sink.held c.args.out.now) (g.O.Sink.faults c.args.out.now)) (g.M.PassMachine.state c.args.machine.now) c.args.recency.now
           (record { picture = 0; batch = c.new.result; tally = c.new-2.result; reads = c.args.input.now.pinned }) at refl c.new.ensures c.new-2.ensures c.requires.input.pages in
-          next_stands (IsDrawnBySome g.M.PassMachine) (given_of g.M.PassMachine.drawing c.args.input.now b.told) b.first 1
+          next_stands (IsDrawnBySome g.M.PassMachine) (given_of g.M.PassMachine.drawing c.args.input.now b.known) b.first 1
           (record { picture = 0; batch = c.new.result; tally = c.new-2.result; reads = c.args.input.now.pinned })
           (λ files. state_by g.D.Folder g.O.Sink c.args.input.now.names.store.now c.args.folder.now c.args.out.now (b.kept ∷ files))
           (g.M.PassMachine.state c.args.machine.now) (g.M.PassMachine.state c.draw_next.new.machine) c.args.recency.now c.draw_next.new.recency s
-          c.in_ok-next.next (c.in_ok-next.ensures.next b.told s.run
-          (may_turn (IsDrawnBySome g.M.PassMachine) (given_of g.M.PassMachine.drawing c.args.input.now b.told) b.first 1
+          c.in_ok-next.next (c.in_ok-next.ensures.next b.known s.run
+          (may_turn (IsDrawnBySome g.M.PassMachine) (given_of g.M.PassMachine.drawing c.args.input.now b.known) b.first 1
           (record { picture = 0; batch = c.new.result; tally = c.new-2.result; reads = c.args.input.now.pinned })
           (walk_state g.D.Folder c.args.input.now.names.store.now c.args.folder.now (b.kept ∷ (g.M.PassMachine.state c.args.machine.now).files)
           (g.O.Sink.held c.args.out.now) (g.O.Sink.faults c.args.out.now)) (g.M.PassMachine.state c.args.machine.now) c.args.recency.now s));
@@ -84,7 +84,7 @@ take_step-requires-clause-stands g c κs within =
     let s = c.loop-number.invariant.some in
     let b = s.0 in (
       b,
-      subst (λ (x : Next). StandsNext (IsDrawnBySome g.M.PassMachine) (given_of g.M.PassMachine.drawing c.args.input.now b.told) c.loop-number.number x b.first
+      subst (λ (x : Next). StandsNext (IsDrawnBySome g.M.PassMachine) (given_of g.M.PassMachine.drawing c.args.input.now b.known) c.loop-number.number x b.first
           (λ files. state_by g.D.Folder g.O.Sink c.args.input.now.names.store.now c.loop-number.folder c.loop-number.out (b.kept ∷ files)) (g.M.PassMachine.state c.loop-number.machine)
           c.loop-number.recency) c.in-Pass.is s.1,
     )
@@ -96,12 +96,12 @@ loop-number-preserved g c =
     record {
       some = (
         i.some.0,
-        t.taken i.some.0 (subst (λ (x : Next). StandsNext (IsDrawnBySome g.M.PassMachine) (given_of g.M.PassMachine.drawing c.args.input.now i.some.0.told)
+        t.taken i.some.0 (subst (λ (x : Next). StandsNext (IsDrawnBySome g.M.PassMachine) (given_of g.M.PassMachine.drawing c.args.input.now i.some.0.known)
             c.loop-number.number x i.some.0.first
             (λ files. state_by g.D.Folder g.O.Sink c.args.input.now.names.store.now c.loop-number.folder c.loop-number.out (i.some.0.kept ∷ files))
             (g.M.PassMachine.state c.loop-number.machine) c.loop-number.recency) c.in-Pass.is i.some.1),
       );
-      each = λ b at. t.taken b (subst (λ (x : Next). StandsNext (IsDrawnBySome g.M.PassMachine) (given_of g.M.PassMachine.drawing c.args.input.now b.told)
+      each = λ b at. t.taken b (subst (λ (x : Next). StandsNext (IsDrawnBySome g.M.PassMachine) (given_of g.M.PassMachine.drawing c.args.input.now b.known)
           c.loop-number.number x b.first
           (λ files. state_by g.D.Folder g.O.Sink c.args.input.now.names.store.now c.loop-number.folder c.loop-number.out (b.kept ∷ files))
           (g.M.PassMachine.state c.loop-number.machine) c.loop-number.recency) c.in-Pass.is (i.each b at));
@@ -110,7 +110,7 @@ loop-number-preserved g c =
     }
 
 pub returns-in-End-clause-walked : goal.returns-in-End-clause-walked
-returns-in-End-clause-walked g c = λ b at. (subst (λ (x : Next). StandsNext (IsDrawnBySome g.M.PassMachine) (given_of g.M.PassMachine.drawing c.args.input.now b.told)
+returns-in-End-clause-walked g c = λ b at. (subst (λ (x : Next). StandsNext (IsDrawnBySome g.M.PassMachine) (given_of g.M.PassMachine.drawing c.args.input.now b.known)
     c.loop-number.number x b.first
     (λ files. state_by g.D.Folder g.O.Sink c.args.input.now.names.store.now c.loop-number.folder c.loop-number.out (b.kept ∷ files))
     (g.M.PassMachine.state c.loop-number.machine) c.loop-number.recency) c.in-End.is (c.loop-number.invariant.each b at)).last
@@ -119,16 +119,16 @@ pub returns-in-End-clause-counted : goal.returns-in-End-clause-counted
 returns-in-End-clause-counted g c =
     let s = c.loop-number.invariant.some in
     let b = s.0 in
-    end_counts (IsDrawnBySome g.M.PassMachine) (given_of g.M.PassMachine.drawing c.args.input.now b.told) b.first c.loop-number.number c.in-End.reads
+    end_counts (IsDrawnBySome g.M.PassMachine) (given_of g.M.PassMachine.drawing c.args.input.now b.known) b.first c.loop-number.number c.in-End.reads
     (state_by g.D.Folder g.O.Sink c.args.input.now.names.store.now c.loop-number.folder c.loop-number.out
     (b.kept ∷ (g.M.PassMachine.state c.loop-number.machine).files))
     (record { passes = c.loop-number.number - 1; reads = c.in-End.reads })
-    (subst (λ (x : Next). StandsNext (IsDrawnBySome g.M.PassMachine) (given_of g.M.PassMachine.drawing c.args.input.now b.told) c.loop-number.number x b.first
+    (subst (λ (x : Next). StandsNext (IsDrawnBySome g.M.PassMachine) (given_of g.M.PassMachine.drawing c.args.input.now b.known) c.loop-number.number x b.first
     (λ files. state_by g.D.Folder g.O.Sink c.args.input.now.names.store.now c.loop-number.folder c.loop-number.out (b.kept ∷ files))
     (g.M.PassMachine.state c.loop-number.machine) c.loop-number.recency) c.in-End.is s.1) refl refl
 
 pub returns-clause-walked : goal.returns-clause-walked
-returns-clause-walked g c = λ b at. next_left (IsDrawnBySome g.M.PassMachine) (given_of g.M.PassMachine.drawing c.args.input.now b.told) b.first c.loop-number.number c.loop-number.next
+returns-clause-walked g c = λ b at. next_left (IsDrawnBySome g.M.PassMachine) (given_of g.M.PassMachine.drawing c.args.input.now b.known) b.first c.loop-number.number c.loop-number.next
     c.args.input.now.names.store.now b.kept (g.O.Sink.held c.loop-number.out) (g.O.Sink.faults c.loop-number.out)
     (g.D.Folder.files c.loop-number.folder) (g.D.Folder.asked c.loop-number.folder) (g.D.Folder.faults c.loop-number.folder)
     (g.M.PassMachine.state c.loop-number.machine) c.loop-number.recency (c.loop-number.invariant.each b at)
@@ -136,10 +136,10 @@ returns-clause-walked g c = λ b at. next_left (IsDrawnBySome g.M.PassMachine) (
 pub returns-in_err-next-in-Pass-clause-walked : goal.returns-in_err-next-in-Pass-clause-walked
 returns-in_err-next-in-Pass-clause-walked g c =
     let p = err_from_is_err_and c.from_residual-in_err-next-in-Pass.result c.from_residual-in_err-next-in-Pass.ensures.1 in
-    λ b at. rw p.1 (subst (LeftByRefusal (IsDrawnBySome g.M.PassMachine) (given_of g.M.PassMachine.drawing c.args.input.now b.told) b.first
+    λ b at. rw p.1 (subst (LeftByRefusal (IsDrawnBySome g.M.PassMachine) (given_of g.M.PassMachine.drawing c.args.input.now b.known) b.first
     (walk_state g.D.Folder c.args.input.now.names.store.now c.take_step.new.folder
     (b.kept ∷ (g.M.PassMachine.state c.take_step.new.machine).files) (g.O.Sink.held c.take_step.new.out) (g.O.Sink.faults c.take_step.new.out)))
-    (sym p.2) (c.in_err-next-in-Pass.ensures.taken b (subst (λ (x : Next). StandsNext (IsDrawnBySome g.M.PassMachine) (given_of g.M.PassMachine.drawing c.args.input.now b.told)
+    (sym p.2) (c.in_err-next-in-Pass.ensures.taken b (subst (λ (x : Next). StandsNext (IsDrawnBySome g.M.PassMachine) (given_of g.M.PassMachine.drawing c.args.input.now b.known)
     c.loop-number.number x b.first
     (λ files. state_by g.D.Folder g.O.Sink c.args.input.now.names.store.now c.loop-number.folder c.loop-number.out (b.kept ∷ files))
     (g.M.PassMachine.state c.loop-number.machine) c.loop-number.recency) c.in-Pass.is (c.loop-number.invariant.each b at))))

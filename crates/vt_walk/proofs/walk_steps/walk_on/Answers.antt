@@ -11,7 +11,7 @@ pub returns-in_err-took-clause-walked : goal.returns-in_err-took-clause-walked
 returns-in_err-took-clause-walked g c =
     let p = err_from_is_err_and c.from_residual.result c.from_residual.ensures.1 in
     λ b at. rw p.1 (subst (LeftByRefusal (IsDrawnBySome g.M.PassMachine)
-    (given_of g.M.PassMachine.drawing c.args.input.now b.told) b.first
+    (given_of g.M.PassMachine.drawing c.args.input.now b.known) b.first
     (walk_state g.D.Folder c.args.input.now.names.store.now c.take_steps.new.folder
     (b.kept ∷ (g.M.PassMachine.state c.take_steps.new.machine).files) (g.O.Sink.held c.take_steps.new.out)
     (g.O.Sink.faults c.take_steps.new.out))) (sym p.2) (c.in_err-took.ensures.walked b at))
@@ -20,7 +20,7 @@ pub returns-in_err-put_end_line-clause-walked : goal.returns-in_err-put_end_line
 returns-in_err-put_end_line-clause-walked g c =
     let p = err_from_is_err_and c.from_residual-in_err-put_end_line.result c.from_residual-in_err-put_end_line.ensures.1 in
     λ b at. rw p.1 (last_broke (IsDrawnBySome g.M.PassMachine)
-    (given_of g.M.PassMachine.drawing c.args.input.now b.told) b.first
+    (given_of g.M.PassMachine.drawing c.args.input.now b.known) b.first
     (walk_state g.D.Folder c.args.input.now.names.store.now c.take_steps.new.folder
     (b.kept ∷ (g.M.PassMachine.state c.take_steps.new.machine).files) (g.O.Sink.held c.take_steps.new.out) (g.O.Sink.faults c.take_steps.new.out))
     c.in_ok-took.took.reads c.pictures.result
@@ -29,7 +29,7 @@ returns-in_err-put_end_line-clause-walked g c =
 
 pub returns-clause-walked : goal.returns-clause-walked
 returns-clause-walked g c = λ b at. last_done (IsDrawnBySome g.M.PassMachine)
-    (given_of g.M.PassMachine.drawing c.args.input.now b.told) b.first
+    (given_of g.M.PassMachine.drawing c.args.input.now b.known) b.first
     (walk_state g.D.Folder c.args.input.now.names.store.now c.take_steps.new.folder (b.kept ∷ (g.M.PassMachine.state c.take_steps.new.machine).files)
     (g.O.Sink.held c.take_steps.new.out) (g.O.Sink.faults c.take_steps.new.out)) c.in_ok-took.took.reads c.pictures.result
     (g.O.Sink.held c.put_end_line.new.out) (g.O.Sink.faults c.put_end_line.new.out) (c.in_ok-took.ensures.walked b at) c.pictures.ensures.value

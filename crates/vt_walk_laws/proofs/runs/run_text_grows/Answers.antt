@@ -1,4 +1,4 @@
-use Rattle.vt_walk.proofs.Telling.{text_grows}
+use Rattle.vt_walk.proofs.RunContents.{text_grows}
 use Rattle.vt_walk_laws.proofs.runs.run_text_grows.Goals as goal
 
 pub returns : goal.returns

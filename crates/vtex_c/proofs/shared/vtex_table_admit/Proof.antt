@@ -2,7 +2,7 @@
 use Rattle.vtex_c.proofs.Steps.{ℕ, [], ◌∷◌, refl, w32, MutBor, proved, full_share, id⊢, Lft, GName, ftrue, flft, flent, named, vptr, fact, tables, Body, ‵, raw, ◌⊛◌, some, later, prop, ◌$◌, ◌∵◌, !, qed, done, move, keep, drop, use1, use2, use3, split, join, fsplit, fjoin, frame, show, pick, await, regoal, suffices, group, lft_new, lft_end, enter, of_opd, addr, stop, no_more, and_then, returns, alloc_all, pass_all, free_all, look_at, get, through, sets, lands_as, u32, yes, Is, shows, lends_ref, ref_back, mem, uint_Lawful, Ptr, RawPtr, block_ptr, lies_at, in_a_block, rawptr_vals, rawptr_Tells, MutRef, owns, types_at, sep, plain, nothing, heard, peeks, calls_at, Lasts, lasts, triple_of, Stays, walk_of, says, stay_dropped, Goes-dropped, ends_at, framed}
 use types.Logic.{sem}
 use prog.Wp.{WpFn}
-use Rattle.vtex_c.specs.Tables.{IsAdmitted}
+use Rattle.vtex_c.specs.Tables.{IsReaderOpened}
 use Rattle.vtex_c.specs.contracts.table.TablePlace.{the_row as R}
 use Rattle.vtex_c.specs.contracts.reader.ReaderPlace.{the_row as S}
 use Rattle.vtex_c.specs.contracts.shared.vtex_table_admit as f
@@ -54,7 +54,7 @@ vtex_table_admit_spec 𝓤 𝓛 𝓜 𝓡 wired =
     calls_at ! (framed 𝓤 𝓛.H 𝓜 (tables 𝓤 𝓛.H 𝓜 𝓡 𝓡.env)) G (met 𝓤 𝓛 𝓜 𝓡 (code.calls-vtex_c::table::admit 𝓡.env wired)) z
     (and_then ! (get ! refl) (and_then ! (get ! refl) (no_more !))) (λ v.
     use1 𝓛 (later (some (λ (u : ℕ). ((‵ (flft κ full_share) ⊛ ‵ (flft ρ full_share) ⊛ toks) ⊛ ‵ (u32.own_val u (v ∷ []))) ⊛
-    some (λ (ws : Lasts g.ended z.0.0 z.0.3). ‵ (lasts g.ended z.0.0 z.0.3 ws) ⊛ raw (fact 𝓤 (IsAdmitted x.0 x.1 u ws.0 ws.1.0)))))) (id⊢ 𝓤 _) $
+    some (λ (ws : Lasts g.ended z.0.0 z.0.3). ‵ (lasts g.ended z.0.0 z.0.3 ws) ⊛ raw (fact 𝓤 (IsReaderOpened x.0 x.1 u ws.0 ws.1.0)))))) (id⊢ 𝓤 _) $
     await ! tt $ pick ! (λ u. split ! $ split ! $ split ! $ lft_end ! tt $ move ! (1 ∷ []) $ split ! $ lft_end ! tt $
     -- [the second is over; the tokens; the first is over; the result; its last values; the second lender's part; the first lender's part]
     move ! (3 ∷ []) $ peeks ! u32 (Is u32) (shows 𝓛 u32) u (v ∷ []) (λ is. lands_as ! refl refl ((uint_Lawful 𝓛 w32).typed u _ is).0 $
@@ -67,5 +67,5 @@ vtex_table_admit_spec 𝓤 𝓛 𝓜 𝓡 wired =
     returns ! (look_at ! 0 refl) $ free_all ! refl $
     suffices ! _ (ends_at 𝓛 f.ended stayed c (y (block_ptr b o) (block_ptr b' o')) v u (tt, (tt, tt)) (tt, (tt, tt))) $
     keep ! (3 ∷ 6 ∷ 5 ∷ 0 ∷ 1 ∷ []) $ nothing ! $ fjoin ! $ nothing ! $ fjoin ! $ move ! (1 ∷ 0 ∷ []) $ group ! 3 $ frame ! $
-    show ! (λ (d : R.Denot × S.Denot). sep 𝓤 (sem 𝓛 (lies_at R full_share (block_ptr b o) d.0)) (sep 𝓤 (sem 𝓛 (lies_at S full_share (block_ptr b' o') d.1)) (fact 𝓤 (IsAdmitted x.0 x.1 u d.0 d.1)))) (ws.0, ws.1.0) $
+    show ! (λ (d : R.Denot × S.Denot). sep 𝓤 (sem 𝓛 (lies_at R full_share (block_ptr b o) d.0)) (sep 𝓤 (sem 𝓛 (lies_at S full_share (block_ptr b' o') d.1)) (fact 𝓤 (IsReaderOpened x.0 x.1 u d.0 d.1)))) (ws.0, ws.1.0) $
     frame ! $ says ! told $ done !)))))))))))))

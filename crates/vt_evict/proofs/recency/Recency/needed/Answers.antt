@@ -6,7 +6,7 @@ use Rattle.std.proofs.lemmas.List.Sums.{count_by-le-length}
 use Rattle.vt_plan.specs.Pages.{pages_of}
 use Rattle.vt_plan.specs.Wants.{pages_wanted}
 use Rattle.vt_plan.specs.Orders.{line_pages}
-use Rattle.vt_plan.specs.Views.{RecencyView, IsTable, pages_needed}
+use Rattle.vt_plan.specs.Views.{RecencyView, IsRecencyTable, pages_needed}
 use Rattle.vt_evict.proofs.LineOrders.{lines_few}
 use Rattle.vt_evict.proofs.TouchLemmas.{needed_is}
 use Rattle.vt_evict.proofs.Seen.{view_of}
@@ -15,7 +15,7 @@ use Rattle.vt_evict.proofs.recency.Recency.needed.Goals as goal
 pub overflow_cast-result : goal.overflow_cast-result
 overflow_cast-result c =
     let v : RecencyView = c.args.self.now in
-    let table : IsTable v = subst IsTable c.self.view_is c.self.invariant.table in
+    let table : IsRecencyTable v = subst IsRecencyTable c.self.view_is c.self.invariant.table in
     let keys : c.as_slice.result.now ≡ line_pages v.shape (pages_wanted c.args.wants.now.elements) =
     c.as_slice.ensures.keys ∙ c.in_ok-pages.ensures ∙ ap (λ (u : RecencyView). line_pages u.shape (pages_wanted c.args.wants.now.elements)) c.self.view_is in
     let inside : All (λ p. p < pages_of v.shape) (pages_wanted c.args.wants.now.elements) =

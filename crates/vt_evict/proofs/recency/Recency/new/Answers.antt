@@ -3,7 +3,7 @@ use Rattle.std.specs.List.{range_with_len}
 use Rattle.std.specs.Map.{keys_of}
 use Rattle.vt_plan.specs.Shape.{Shape}
 use Rattle.vt_plan.specs.Pages.{pages_of}
-use Rattle.vt_plan.specs.Views.{RecencyView, IsTable, is_held, first_view}
+use Rattle.vt_plan.specs.Views.{RecencyView, IsRecencyTable, is_held, first_view}
 use Rattle.vt_evict.proofs.FirstLemmas.{first_table, first_free}
 use Rattle.vt_evict.proofs.recency.Recency.new.Goals as goal
 
@@ -20,7 +20,7 @@ invariant_of-result c =
     let view = first_is c.args.geometry.now c.args.frames c.args.pinned c.in_ok-entries.entries.items (keys_of c.in_ok-order.order.entries)
     entries keys in
     record {
-      table = subst IsTable (sym view) (first_table c.args.geometry.now c.args.frames c.args.pinned c.page_count.ensures.limits c.requires.most_frames
+      table = subst IsRecencyTable (sym view) (first_table c.args.geometry.now c.args.frames c.args.pinned c.page_count.ensures.limits c.requires.most_frames
           c.requires.some_pinned
           c.requires.enough_frames c.requires.enough_pages);
       free_frames = λ f.
@@ -46,6 +46,6 @@ returns-clause-table c =
     let keys : keys_of c.in_ok-order.order.entries ≡ [] = ap (λ o. keys_of o.entries) c.in_ok-order.ensures in
     let view = first_is c.args.geometry.now c.args.frames c.args.pinned c.in_ok-entries.entries.items (keys_of c.in_ok-order.order.entries)
     entries keys in
-    subst IsTable (sym view) (first_table c.args.geometry.now c.args.frames c.args.pinned c.page_count.ensures.limits c.requires.most_frames
+    subst IsRecencyTable (sym view) (first_table c.args.geometry.now c.args.frames c.args.pinned c.page_count.ensures.limits c.requires.most_frames
     c.requires.some_pinned
     c.requires.enough_frames c.requires.enough_pages)

@@ -3,7 +3,7 @@ use Rattle.std.specs.List.{All}
 use Rattle.vt_plan.specs.Pages.{pages_of}
 use Rattle.vt_plan.specs.FeedbackTypes.Wanted.{Wanted}
 use Rattle.vt_plan.specs.Wants.{pages_wanted}
-use Rattle.vt_plan.specs.Views.{RecencyView, IsTable}
+use Rattle.vt_plan.specs.Views.{RecencyView, IsRecencyTable}
 use Rattle.vt_plan.specs.Plans.{missing_pages}
 use Rattle.vt_plan.specs.Missing.{missing_from}
 use Rattle.vt_evict.proofs.PlansMade.{planned_is, planned_lawful, planned_most}
@@ -34,7 +34,7 @@ returns-clause-lawful c =
     planned_lawful c.args.self.now c.args.wants.now.elements c.as_slice-missing.result.now c.args.q c.plan_by.result
     (missing_seen _ _ c.args.wants.now.elements _ _ _ c.self.view_is c.as_slice-missing.ensures.keys c.as_slice.ensures.value c.in_ok-asked.ensures)
     c.plan_by.ensures
-    (subst IsTable c.self.view_is c.self.invariant.table) c.requires
+    (subst IsRecencyTable c.self.view_is c.self.invariant.table) c.requires
 
 pub returns-clause-most : goal.returns-clause-most
 returns-clause-most c =

@@ -1,6 +1,6 @@
 use Rattle.std.proofs.Common.{◌≡◌, ℕ, ◌-◌, suc, Bool, List, drop, get_or, subst, sym, arith}
 use Rattle.vt_plan.specs.declared.batches.Planned.{Planned}
-use Rattle.vt_evict.specs.Batches.{IsSettled, IsLawfulEntry, read_entries}
+use Rattle.vt_evict.specs.Batches.{IsSettledByReads, IsLawfulEntry, read_entries}
 use Rattle.vt_evict.proofs.SettleLemmas.{settle_step, read_at, nothing_read}
 use Rattle.vt_evict.proofs.recency.Recency.settle.Goals as goal
 
@@ -24,8 +24,8 @@ loop-left-preserved c =
     let lost : List Bool = c.args.lost.now.elements in
     let j : ℕ = c.loop-left.left - 1 in
     let next : suc j ≡ c.loop-left.left = omega (arith, c.loop-left-test.true) in
-    let settled : IsSettled c.args.self.now (read_entries (drop (suc j) batch) (drop (suc j) lost)) c.loop-left.self =
-    subst (λ (n : ℕ). IsSettled c.args.self.now (read_entries (drop n batch) (drop n lost)) c.loop-left.self) (sym next) c.loop-left.invariant.settled in
+    let settled : IsSettledByReads c.args.self.now (read_entries (drop (suc j) batch) (drop (suc j) lost)) c.loop-left.self =
+    subst (λ (n : ℕ). IsSettledByReads c.args.self.now (read_entries (drop n batch) (drop n lost)) c.loop-left.self) (sym next) c.loop-left.invariant.settled in
     let step = settle_step c.args.self.now c.loop-left.self c.apply_unless.new.self batch lost j c.at.result.now c.at.result.now c.at-is_lost.result.now
     (omega (arith, c.loop-left-test.true, c.loop-left.invariant.inside)) c.requires.lost_for_all
     (read_at lost j c.at-is_lost.result.now c.at-is_lost.ensures) (read_at batch j c.at.result.now c.at.ensures)

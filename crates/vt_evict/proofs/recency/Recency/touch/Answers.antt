@@ -3,7 +3,7 @@ use Rattle.std.specs.List.{filter}
 use Rattle.std.specs.Map.{keys_of}
 use Rattle.vt_plan.specs.Pages.{pages_of}
 use Rattle.vt_plan.specs.Orders.{put_first}
-use Rattle.vt_plan.specs.Views.{RecencyView, IsTable, is_loose_below, touched}
+use Rattle.vt_plan.specs.Views.{RecencyView, IsRecencyTable, is_loose_below, touched}
 use Rattle.vt_evict.specs.Kept.{IsWalk}
 use Rattle.vt_evict.proofs.TouchLemmas.{touched_is, touched_table}
 use Rattle.vt_evict.proofs.Seen.{view_of}
@@ -27,8 +27,8 @@ order_is c =
     c.page_count-pages.ensures.pages one in
     touched_is (view c) c.args.wants.now.elements walked keys c.walk_lines.ensures.walked two
 
-table_is : (c : goal.After-put_first) → IsTable (record (view c) { order = keys_of c.put_first.new.order.entries })
-table_is c = subst IsTable (sym (order_is c)) (touched_table (view c) c.args.wants.now.elements c.self.invariant.table)
+table_is : (c : goal.After-put_first) → IsRecencyTable (record (view c) { order = keys_of c.put_first.new.order.entries })
+table_is c = subst IsRecencyTable (sym (order_is c)) (touched_table (view c) c.args.wants.now.elements c.self.invariant.table)
 
 pub invariant_of-self : goal.invariant_of-self
 invariant_of-self c = record {

@@ -20,27 +20,27 @@ load-requires c = let h = c.self.inside in let own = c.self.invariant in let sam
 )
 
 pub invariant_of-self : goal.invariant_of-self
-invariant_of-self c = let h = c.self.inside in let own = c.self.invariant.1 in let told = c.load.ensures.2 c.args.page (word_of_held (pass_at c.self.inside.seat).sizes (pass_at c.self.inside.seat).sizes _ _ _ c.args.page _ refl c.self.invariant.1.stage (entry_from _ _ _ _ _ c.args.page c.self.invariant.2)) in let seen = sees_pass _ _ told.now in let stage = ap (λ p. p.stage) seen.1 in (
+invariant_of-self c = let h = c.self.inside in let own = c.self.invariant.1 in let heard = c.load.ensures.2 c.args.page (word_of_held (pass_at c.self.inside.seat).sizes (pass_at c.self.inside.seat).sizes _ _ _ c.args.page _ refl c.self.invariant.1.stage (entry_from _ _ _ _ _ c.args.page c.self.invariant.2)) in let seen = sees_pass _ _ heard.now in let stage = ap (λ p. p.stage) seen.1 in (
   seen.0,
   record {
     stage = stage ∙ (own.stage ∙ ap (λ (s : Stage). Holding (hint_of s) h.version) (sym stage));
     sampler = ap (λ p. p.sampler) seen.1 ∙ own.sampler;
     inside = let same = ap (λ p. p.sizes.samplers) seen.1 in let inside = own.inside in omega arith;
-    small = subst (λ (p : PassView). All (λ n. n.entry ≤ p.sizes.frames) p.notes) (sym seen.1) (All-cons (λ n. n.entry ≤ (pass_at h.seat).sizes.frames) _ (pass_at h.seat).notes told.most own.small);
+    small = subst (λ (p : PassView). All (λ n. n.entry ≤ p.sizes.frames) p.notes) (sym seen.1) (All-cons (λ n. n.entry ≤ (pass_at h.seat).sizes.frames) _ (pass_at h.seat).notes heard.most own.small);
   },
   starts_kept _ _ _ _ _ _ (ap (λ p. p.sizes) seen.1) c.self.invariant.2,
 )
 
 pub returns-clause-of : goal.returns-clause-of
-returns-clause-of c = let same = c.self.view_is in let told = c.load.ensures.2 c.args.page (word_of_held (pass_at c.self.inside.seat).sizes (pass_at c.self.inside.seat).sizes _ _ _ c.args.page _ refl c.self.invariant.1.stage (entry_from _ _ _ _ _ c.args.page c.self.invariant.2)) in
-    record { limits = c.requires.of.limits; table = c.load.ensures.0 ∙ (ap (λ v. v.table) same ∙ c.requires.of.table); sizes = ap (λ p. p.sizes) (sees_pass _ _ told.now).1 ∙ (ap (λ v. v.view.sizes) same ∙ c.requires.of.sizes) }
+returns-clause-of c = let same = c.self.view_is in let heard = c.load.ensures.2 c.args.page (word_of_held (pass_at c.self.inside.seat).sizes (pass_at c.self.inside.seat).sizes _ _ _ c.args.page _ refl c.self.invariant.1.stage (entry_from _ _ _ _ _ c.args.page c.self.invariant.2)) in
+    record { limits = c.requires.of.limits; table = c.load.ensures.0 ∙ (ap (λ v. v.table) same ∙ c.requires.of.table); sizes = ap (λ p. p.sizes) (sees_pass _ _ heard.now).1 ∙ (ap (λ v. v.view.sizes) same ∙ c.requires.of.sizes) }
 
 pub returns-clause-view : goal.returns-clause-view
-returns-clause-view c = let told = c.load.ensures.2 c.args.page (word_of_held (pass_at c.self.inside.seat).sizes (pass_at c.self.inside.seat).sizes _ _ _ c.args.page _ refl c.self.invariant.1.stage (entry_from _ _ _ _ _ c.args.page c.self.invariant.2)) in (sees_pass _ _ told.now).1 ∙ (ap (λ (u : ℕ). noting u c.args.page c.load.result (pass_at c.self.inside.seat)) (ap held_of c.self.invariant.1.stage)
+returns-clause-view c = let heard = c.load.ensures.2 c.args.page (word_of_held (pass_at c.self.inside.seat).sizes (pass_at c.self.inside.seat).sizes _ _ _ c.args.page _ refl c.self.invariant.1.stage (entry_from _ _ _ _ _ c.args.page c.self.invariant.2)) in (sees_pass _ _ heard.now).1 ∙ (ap (λ (u : ℕ). noting u c.args.page c.load.result (pass_at c.self.inside.seat)) (ap held_of c.self.invariant.1.stage)
     ∙ ap (λ (v : HeldValue). noting v.version c.args.page c.load.result v.view) c.self.view_is)
 
 pub returns-clause-most : goal.returns-clause-most
-returns-clause-most c = let told = c.load.ensures.2 c.args.page (word_of_held (pass_at c.self.inside.seat).sizes (pass_at c.self.inside.seat).sizes _ _ _ c.args.page _ refl c.self.invariant.1.stage (entry_from _ _ _ _ _ c.args.page c.self.invariant.2)) in let most = told.most in let more = ap (λ v. v.sizes.frames) c.words.view_is in let count = ap (λ z. z.frames) (ap (λ v. v.view.sizes) c.self.view_is ∙ (c.requires.of.sizes ∙ sym (ap (λ v. v.sizes) c.words.view_is))) in omega arith
+returns-clause-most c = let heard = c.load.ensures.2 c.args.page (word_of_held (pass_at c.self.inside.seat).sizes (pass_at c.self.inside.seat).sizes _ _ _ c.args.page _ refl c.self.invariant.1.stage (entry_from _ _ _ _ _ c.args.page c.self.invariant.2)) in let most = heard.most in let more = ap (λ v. v.sizes.frames) c.words.view_is in let count = ap (λ z. z.frames) (ap (λ v. v.view.sizes) c.self.view_is ∙ (c.requires.of.sizes ∙ sym (ap (λ v. v.sizes) c.words.view_is))) in omega arith
 
 pub returns-clause-root : goal.returns-clause-root
-returns-clause-root c = let told = c.load.ensures.2 c.args.page (word_of_held (pass_at c.self.inside.seat).sizes (pass_at c.self.inside.seat).sizes _ _ _ c.args.page _ refl c.self.invariant.1.stage (entry_from _ _ _ _ _ c.args.page c.self.invariant.2)) in λ at_root was. told.root (at_root ∙ (sym (ap (λ v. v.sizes.root) c.words.view_is) ∙ sym (ap (λ z. z.root) (ap (λ v. v.view.sizes) c.self.view_is ∙ (c.requires.of.sizes ∙ sym (ap (λ v. v.sizes) c.words.view_is)))))) (ap (λ v. v.view.rooted) c.self.view_is ∙ was)
+returns-clause-root c = let heard = c.load.ensures.2 c.args.page (word_of_held (pass_at c.self.inside.seat).sizes (pass_at c.self.inside.seat).sizes _ _ _ c.args.page _ refl c.self.invariant.1.stage (entry_from _ _ _ _ _ c.args.page c.self.invariant.2)) in λ at_root was. heard.root (at_root ∙ (sym (ap (λ v. v.sizes.root) c.words.view_is) ∙ sym (ap (λ z. z.root) (ap (λ v. v.view.sizes) c.self.view_is ∙ (c.requires.of.sizes ∙ sym (ap (λ v. v.sizes) c.words.view_is)))))) (ap (λ v. v.view.rooted) c.self.view_is ∙ was)

@@ -43,8 +43,8 @@ load-requires c = let h = c.self.inside in let own = c.self.invariant in let sam
 )
 
 pub invariant_of-self : goal.invariant_of-self
-invariant_of-self c = let h = c.self.inside in let own = c.self.invariant.1 in let same = c.self.view_is in let sizes = ap (λ v. v.view.sizes) same ∙ (c.requires.of.sizes ∙ sym (ap (λ v. v.sizes) c.words.view_is)) in let told = c.load.ensures.2 c.args.frame c.args.place (let inside = c.requires.inside in let more = ap (λ v. v.sizes.texels) c.words.view_is in let count = ap (λ z. z.texels) sizes in omega arith) (texel_from _ _ _ _ _ c.args.frame c.args.place c.self.invariant.2) in
-    let seen = sees_pass _ _ told in let stage = ap (λ p. p.stage) seen.1 in (
+invariant_of-self c = let h = c.self.inside in let own = c.self.invariant.1 in let same = c.self.view_is in let sizes = ap (λ v. v.view.sizes) same ∙ (c.requires.of.sizes ∙ sym (ap (λ v. v.sizes) c.words.view_is)) in let heard = c.load.ensures.2 c.args.frame c.args.place (let inside = c.requires.inside in let more = ap (λ v. v.sizes.texels) c.words.view_is in let count = ap (λ z. z.texels) sizes in omega arith) (texel_from _ _ _ _ _ c.args.frame c.args.place c.self.invariant.2) in
+    let seen = sees_pass _ _ heard in let stage = ap (λ p. p.stage) seen.1 in (
       seen.0,
       record {
         stage = stage ∙ (own.stage ∙ ap (λ (s : Stage). Holding (hint_of s) h.version) (sym stage));
@@ -56,10 +56,10 @@ invariant_of-self c = let h = c.self.inside in let own = c.self.invariant.1 in l
     )
 
 pub returns-clause-of : goal.returns-clause-of
-returns-clause-of c = let same = c.self.view_is in let sizes = ap (λ v. v.view.sizes) same ∙ (c.requires.of.sizes ∙ sym (ap (λ v. v.sizes) c.words.view_is)) in let told = c.load.ensures.2 c.args.frame c.args.place (let inside = c.requires.inside in let more = ap (λ v. v.sizes.texels) c.words.view_is in let count = ap (λ z. z.texels) sizes in omega arith) (texel_from _ _ _ _ _ c.args.frame c.args.place c.self.invariant.2) in
-    record { limits = c.requires.of.limits; table = c.load.ensures.0 ∙ (ap (λ v. v.table) same ∙ c.requires.of.table); sizes = ap (λ p. p.sizes) (sees_pass _ _ told).1 ∙ (sizes ∙ ap (λ v. v.sizes) c.words.view_is) }
+returns-clause-of c = let same = c.self.view_is in let sizes = ap (λ v. v.view.sizes) same ∙ (c.requires.of.sizes ∙ sym (ap (λ v. v.sizes) c.words.view_is)) in let heard = c.load.ensures.2 c.args.frame c.args.place (let inside = c.requires.inside in let more = ap (λ v. v.sizes.texels) c.words.view_is in let count = ap (λ z. z.texels) sizes in omega arith) (texel_from _ _ _ _ _ c.args.frame c.args.place c.self.invariant.2) in
+    record { limits = c.requires.of.limits; table = c.load.ensures.0 ∙ (ap (λ v. v.table) same ∙ c.requires.of.table); sizes = ap (λ p. p.sizes) (sees_pass _ _ heard).1 ∙ (sizes ∙ ap (λ v. v.sizes) c.words.view_is) }
 
 pub returns-clause-view : goal.returns-clause-view
-returns-clause-view c = let same = c.self.view_is in let sizes = ap (λ v. v.view.sizes) same ∙ (c.requires.of.sizes ∙ sym (ap (λ v. v.sizes) c.words.view_is)) in let told = c.load.ensures.2 c.args.frame c.args.place (let inside = c.requires.inside in let more = ap (λ v. v.sizes.texels) c.words.view_is in let count = ap (λ z. z.texels) sizes in omega arith) (texel_from _ _ _ _ _ c.args.frame c.args.place c.self.invariant.2) in
-    (sees_pass _ _ told).1 ∙ (ap (λ (u : ℕ). wording u c.args.frame c.args.place c.load.result (pass_at c.self.inside.seat)) (ap held_of c.self.invariant.1.stage)
+returns-clause-view c = let same = c.self.view_is in let sizes = ap (λ v. v.view.sizes) same ∙ (c.requires.of.sizes ∙ sym (ap (λ v. v.sizes) c.words.view_is)) in let heard = c.load.ensures.2 c.args.frame c.args.place (let inside = c.requires.inside in let more = ap (λ v. v.sizes.texels) c.words.view_is in let count = ap (λ z. z.texels) sizes in omega arith) (texel_from _ _ _ _ _ c.args.frame c.args.place c.self.invariant.2) in
+    (sees_pass _ _ heard).1 ∙ (ap (λ (u : ℕ). wording u c.args.frame c.args.place c.load.result (pass_at c.self.inside.seat)) (ap held_of c.self.invariant.1.stage)
     ∙ ap (λ (v : HeldValue). wording v.version c.args.frame c.args.place c.load.result v.view) same)

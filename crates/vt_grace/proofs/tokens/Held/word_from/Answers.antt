@@ -51,10 +51,10 @@ invariant_of-self c =
     let z : Sizes = c.args.words.now.sizes in
     let own = c.self.invariant.1 in
     let sizes : (pass_at h.seat).sizes ≡ z = ap (λ (v : HeldValue). v.view.sizes) c.self.view_is ∙ c.requires.of.sizes in
-    let told = c.load.ensures.2 c.args.frame c.args.place
+    let heard = c.load.ensures.2 c.args.frame c.args.place
     (let inside = c.requires.inside in let count = ap (λ (y : Sizes). y.texels) sizes in omega arith)
     (at_place z c.args.start c.args.frame c.args.place c.requires.start ∙ ap (λ (y : Sizes). texel_word y c.args.frame c.args.place) (sym sizes)) in
-    let seen = sees_pass _ _ told in
+    let seen = sees_pass _ _ heard in
     let stage = ap (λ (p : PassView). p.stage) seen.1 in (
       seen.0,
       record {
@@ -71,13 +71,13 @@ returns-clause-of c =
     let h = c.self.inside in
     let z : Sizes = c.args.words.now.sizes in
     let sizes : (pass_at h.seat).sizes ≡ z = ap (λ (v : HeldValue). v.view.sizes) c.self.view_is ∙ c.requires.of.sizes in
-    let told = c.load.ensures.2 c.args.frame c.args.place
+    let heard = c.load.ensures.2 c.args.frame c.args.place
     (let inside = c.requires.inside in let count = ap (λ (y : Sizes). y.texels) sizes in omega arith)
     (at_place z c.args.start c.args.frame c.args.place c.requires.start ∙ ap (λ (y : Sizes). texel_word y c.args.frame c.args.place) (sym sizes)) in
     record {
       limits = c.requires.of.limits;
       table = c.load.ensures.0 ∙ (ap (λ (v : HeldValue). v.table) c.self.view_is ∙ c.requires.of.table);
-      sizes = ap (λ (p : PassView). p.sizes) (sees_pass _ _ told).1 ∙ sizes;
+      sizes = ap (λ (p : PassView). p.sizes) (sees_pass _ _ heard).1 ∙ sizes;
     }
 
 pub returns-clause-view : goal.returns-clause-view
@@ -85,8 +85,8 @@ returns-clause-view c =
     let h = c.self.inside in
     let z : Sizes = c.args.words.now.sizes in
     let sizes : (pass_at h.seat).sizes ≡ z = ap (λ (v : HeldValue). v.view.sizes) c.self.view_is ∙ c.requires.of.sizes in
-    let told = c.load.ensures.2 c.args.frame c.args.place
+    let heard = c.load.ensures.2 c.args.frame c.args.place
     (let inside = c.requires.inside in let count = ap (λ (y : Sizes). y.texels) sizes in omega arith)
     (at_place z c.args.start c.args.frame c.args.place c.requires.start ∙ ap (λ (y : Sizes). texel_word y c.args.frame c.args.place) (sym sizes)) in
-    (sees_pass _ _ told).1 ∙ (ap (λ (u : ℕ). wording u c.args.frame c.args.place c.load.result (pass_at h.seat)) (ap held_of c.self.invariant.1.stage)
+    (sees_pass _ _ heard).1 ∙ (ap (λ (u : ℕ). wording u c.args.frame c.args.place c.load.result (pass_at h.seat)) (ap held_of c.self.invariant.1.stage)
     ∙ ap (λ (v : HeldValue). wording v.version c.args.frame c.args.place c.load.result v.view) c.self.view_is)

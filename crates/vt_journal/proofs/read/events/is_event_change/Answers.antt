@@ -10,7 +10,7 @@ by_next : (s : Shape) (changes : List Change) (pinned version : ℕ) (change : C
     → IsUnpinned s pinned change → MatchBool next (IsNext (newest changes) change) (IsNext (newest changes) change → ⊥)
     → MatchBool next (IsEventChange s changes pinned version change) (IsEventChange s changes pinned version change → ⊥)
 by_next s changes pinned version change true is unpinned next = record { version_is = is; unpinned = unpinned; next = next }
-by_next s changes pinned version change false is unpinned next = λ told. next told.next
+by_next s changes pinned version change false is unpinned next = λ spelled. next spelled.next
 
 pub returns : goal.returns
 returns c = by_next c.args.geometry.now c.args.kept.now.changes c.args.pinned c.args.version c.args.change c.is_next.result

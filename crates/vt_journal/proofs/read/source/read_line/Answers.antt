@@ -13,8 +13,8 @@ unsaid : (s : Shape) (text : List ℕ) (at : ℕ) (part : List ℕ) (others : Li
 unsaid s text at part others cut none line bytes next rest e says =
     none line (subst (λ (b : List ℕ). Says s b line) (ap (λ (l : List (List ℕ)). get_or l 0 []) (sym e ∙ cut)) says)
 
-told_none : {X : Type 0} (A : Type 0) (B : X → Type 0) (o : Option X) → o ≡ None → A → MatchOption o A B
-told_none A B o e a = subst (λ r. MatchOption r A B) (sym e) a
+none_spelled : {X : Type 0} (A : Type 0) (B : X → Type 0) (o : Option X) → o ≡ None → A → MatchOption o A B
+none_spelled A B o e a = subst (λ r. MatchOption r A B) (sym e) a
 
 pub returns : goal.returns
 returns c = let place = c.in_ok-end.ensures.place in let q = c.requires.few in record {
@@ -27,9 +27,9 @@ returns c = let place = c.in_ok-end.ensures.place in let q = c.requires.few in r
 }
 
 pub returns-in_err-end : goal.returns-in_err-end
-returns-in_err-end c = told_none _ _ _ c.from_residual.ensures
+returns-in_err-end c = none_spelled _ _ _ c.from_residual.ensures
     (last_line c.args.source.now.geometry.now c.args.source.now.text.now c.args.cursor.at _ c.in_err-end.ensures.line)
 
 pub returns-in_err-line : goal.returns-in_err-line
-returns-in_err-line c = told_none _ _ _ c.from_residual-in_err-line.ensures
+returns-in_err-line c = none_spelled _ _ _ c.from_residual-in_err-line.ensures
     (unsaid c.args.source.now.geometry.now c.args.source.now.text.now c.args.cursor.at _ _ c.in_ok-end.ensures.line c.in_err-line.ensures)

@@ -5,15 +5,15 @@ use Rattle.vt_outside.specs.Counts.{Rose}
 use Rattle.vt_ppm.specs.declared.error.PpmError.TheVariants.{Failed}
 use Rattle.vt_ppm.specs.Flaws.{IsHeaderFlaw}
 use Rattle.vt_ppm.specs.Refusals.{IsSampleRefusal}
-use Rattle.vt_ppm.specs.Strips.{ChecksPieces, GainsRows, HasRasterIfTold, HasSamplesIfTold, IsTextureIfTold, MayBeOver, ReadsNothing}
+use Rattle.vt_ppm.specs.Strips.{ChecksPieces, GainsRows, HasRasterIfKnown, HasSamplesIfKnown, IsTextureIfKnown, MayBeOver, ReadsNothing}
 use Rattle.vt_ppm.proofs.Refusing.{made_if_ok, not_made_if_err, value_if_made}
-use Rattle.vt_ppm.proofs.StripLaws.{texture_told}
+use Rattle.vt_ppm.proofs.StripLaws.{texture_known}
 use Rattle.vt_ppm.proofs.strips.StripReader.check.Goals as goal
 
 pub returns-clause-texture : goal.returns-clause-texture
 returns-clause-texture g c =
-    subst (λ v. OnOk c.look_over-answer.result (IsTextureIfTold (g.F.File.bytes v.file) v.header)) c.self.view_is (on_ok_weaker c.look_over-answer.result
-    (texture_told (g.F.File.bytes c.self.inside.file) c.self.inside.header c.self.invariant.raster) c.look_over-answer.ensures.few)
+    subst (λ v. OnOk c.look_over-answer.result (IsTextureIfKnown (g.F.File.bytes v.file) v.header)) c.self.view_is (on_ok_weaker c.look_over-answer.result
+    (texture_known (g.F.File.bytes c.self.inside.file) c.self.inside.header c.self.invariant.raster) c.look_over-answer.ensures.few)
 
 pub returns-clause-checked : goal.returns-clause-checked
 returns-clause-checked g c = made_if_ok c.look_over-answer.result _ c.is_ok-self-inside.ensures.value
@@ -70,8 +70,8 @@ invariant_of-self g c =
     let a = c.look_over-answer in
     record {
       header = c.self.invariant.header;
-      raster = subst (λ t. HasRasterIfTold t v.header) (sym a.ensures.bytes) c.self.invariant.raster;
-      samples = λ checked. subst (λ t. HasSamplesIfTold t v.header) (sym a.ensures.bytes)
+      raster = subst (λ t. HasRasterIfKnown t v.header) (sym a.ensures.bytes) c.self.invariant.raster;
+      samples = λ checked. subst (λ t. HasSamplesIfKnown t v.header) (sym a.ensures.bytes)
           (value_if_made a.result _ _ c.is_ok-self-inside.ensures.value checked a.ensures.few);
       room = λ may. ap length (with_items_is v.buffer a.new.buffer (a.auto.buffer ∙ c.as_mut_slice.ensures.len)) ∙ a.auto.buffer
           ∙ ap length c.as_mut_slice.ensures.value ∙ c.self.invariant.room may;

@@ -1,7 +1,7 @@
 use Rattle.std.proofs.Common.{◌≡◌, ◌+◌, ◌*◌, ◌≤◌, ◌∙◌, length, true, false, is_err, IfSome, refl, ap, sym, subst}
-use Rattle.vt_ppm.specs.Strips.{RowsAsked, row_length, rows_of}
-use Rattle.vt_ppm.proofs.StripLaws.{rows_inside, rows_full, rows_noted, scaled_told}
-use Rattle.vt_ppm.proofs.Refusing.{told_refused}
+use Rattle.vt_ppm.specs.Strips.{RowsAsked, row_length, sample_rows}
+use Rattle.vt_ppm.proofs.StripLaws.{rows_inside, rows_full, rows_noted, scaled_known}
+use Rattle.vt_ppm.proofs.Refusing.{known_refused}
 use Rattle.std.proofs.lemmas.Bool.{false≢true}
 use Rattle.vt_outside.proofs.Refusing.{none_made}
 use Rattle.vt_ppm.proofs.strips.StripReader.rows.Goals as goal
@@ -28,8 +28,8 @@ returns-clause-rows g c =
     let header : c.self.inside.header ≡ c.args.self.now.header = ap (λ v. v.header) c.self.view_is in
     let checked = ap (λ v. v.checked) c.self.view_is ∙ c.requires.checked in
     let inside : c.args.y + c.args.count ≤ c.self.inside.header.height = rw header c.requires.inside in
-    subst (λ v. IfSome (g.F.File.bytes v.file) (λ b. c.scale.new.raster ≡ rows_of v.header b c.args.y c.args.count)) c.self.view_is
-    (scaled_told (g.F.File.bytes c.self.inside.file) c.self.inside.header c.read_at.new.buf c.args.y c.args.count c.row_start.result
+    subst (λ v. IfSome (g.F.File.bytes v.file) (λ b. c.scale.new.raster ≡ sample_rows v.header b c.args.y c.args.count)) c.self.view_is
+    (scaled_known (g.F.File.bytes c.self.inside.file) c.self.inside.header c.read_at.new.buf c.args.y c.args.count c.row_start.result
     c.sample_count-count.result c.row_start.ensures.value c.in_ok-read_at.ensures.piece
     (c.read_at.auto.buf ∙ c.requires.size ∙ ap (λ h. c.args.count * row_length h) (sym header)) c.sample_count-count.ensures
     c.scale.new.raster c.self.invariant.raster (c.self.invariant.samples checked) inside c.scale.auto.raster c.scale.ensures.scaled c.scale.ensures.bytes)
@@ -44,7 +44,7 @@ pub returns-in_err-read_at-clause-asked : goal.returns-in_err-read_at-clause-ask
 returns-in_err-read_at-clause-asked g c =
     subst (λ v. RowsAsked v.header c.args.y c.args.count (is_err c.from_residual.result) (g.F.File.asked v.file) (g.F.File.asked c.read_at.new.self))
     c.self.view_is
-    (told_refused c.from_residual.result _ (λ b. RowsAsked c.self.inside.header c.args.y c.args.count b (g.F.File.asked c.self.inside.file)
+    (known_refused c.from_residual.result _ (λ b. RowsAsked c.self.inside.header c.args.y c.args.count b (g.F.File.asked c.self.inside.file)
     (g.F.File.asked c.read_at.new.self)) c.from_residual.ensures.1 (rows_noted c.self.inside.header c.args.y c.args.count _ _ true _ _ c.row_start.ensures.value
     (c.read_at.auto.buf ∙ c.requires.size ∙ ap (λ v. c.args.count * row_length v.header) (sym c.self.view_is))
     c.in_err-read_at.ensures.asked))

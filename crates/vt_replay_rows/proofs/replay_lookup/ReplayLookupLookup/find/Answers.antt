@@ -1,5 +1,5 @@
 use Rattle.std.proofs.Common.{sym, subst}
-use Rattle.vt_replay_rows.specs.ReplayLookups.{ReplayLookupView, IsTrueOf}
+use Rattle.vt_replay_rows.specs.ReplayLookups.{ReplayLookupView, IsTrueOfTiles}
 use Rattle.vt_replay_rows.proofs.ReplayLookupLaws.{says_on}
 use Rattle.vt_replay_rows.proofs.replay_lookup.ReplayLookupLookup.find.Goals as goal
 
@@ -17,4 +17,4 @@ returns-else-is_some-clause-said c = λ note h.
       bytes = kept.tiles.now.bytes.items;
       missed = kept.missed;
     } in
-    says_on v note (subst (λ (u : ReplayLookupView). IsTrueOf u note) (sym c.self.view_is) h)
+    says_on v note (subst (λ (u : ReplayLookupView). IsTrueOfTiles u note) (sym c.self.view_is) h)

@@ -1,7 +1,7 @@
 use Rattle.std.proofs.Common.{◌≡◌, ℕ, ◌++◌, List, Some, length, take, drop, ap, ◌∙◌, arith}
 use Rattle.vt_journal.specs.Changes.{with_entry}
 use Rattle.vt_journal.specs.Kept.{entries_of}
-use Rattle.vt_replay_rows.specs.ReplayLookups.{row_of}
+use Rattle.vt_replay_rows.specs.ReplayLookups.{bytes_row}
 use Rattle.vt_replay_rows.proofs.Tiling.{tiles_more}
 use Rattle.vt_replay_rows.proofs.Places.{written_back}
 use Rattle.vt_replay_rows.proofs.Reading.{read_none}
@@ -24,7 +24,7 @@ returns-clause-tiles g c =
     c.put_entry-2.new.numbers c.put_entry.new.numbers c.read_slot.new.bytes (g.F.File.bytes c.args.store.now.file) c.requires.tiles
     slots_length owners_length bytes_length
     (c.put_entry.ensures ∙ ap (λ (l : List ℕ). with_entry (entries_of l) c.in_ok-slot.slot (Some c.args.page)) c.as_mut_slice.ensures.value)
-    (λ z other. c.read_slot.ensures.others z other ∙ ap (λ (l : List ℕ). row_of t.size l z) c.as_mut_slice-bytes.ensures.value)
+    (λ z other. c.read_slot.ensures.others z other ∙ ap (λ (l : List ℕ). bytes_row t.size l z) c.as_mut_slice-bytes.ensures.value)
     c.in_ok-read_slot.ensures.tile)
 
 pub returns-in_err-read_slot-clause-read : goal.returns-in_err-read_slot-clause-read

@@ -2,7 +2,7 @@ use Rattle.std.proofs.Common.{ℕ, Ok, Err, refl, subst}
 use Rattle.std.proofs.lemmas.Result.{err_from_is_err_and}
 use Rattle.vt_outside.specs.Effects.{folder_state, sink_state, folder_effect, sink_effect}
 use Rattle.vt_command_inputs.specs.Lines.{end_line}
-use Rattle.vt_outside.specs.Expectations.{Puts}
+use Rattle.vt_outside.specs.Expectations.{PutsText}
 use Rattle.vt_command_inputs.proofs.Leaving.{unleft, left_writing, left_putting}
 use Rattle.vt_store_commands.specs.SeenTextures.{seen_path}
 use Rattle.vt_store_commands.proofs.SeenTextures.{tile_some}
@@ -50,4 +50,4 @@ returns g c =
     (Ok tt) c.in_ok-chain.ensures refl
     (surface_is s words.tile c.levels.result c.in_ok-chain.chain some c.requires.enough.sides c.in_ok-chain.ensures c.levels.ensures.value)
     c.in_ok-write_all.ensures)
-    (subst (λ (n : ℕ). Puts (end_line n) (sink_effect g.O.Sink c.args.out.now c.put_end.new.out) c.put_end.result) c.pictures.ensures.value c.put_end.ensures)
+    (subst (λ (n : ℕ). PutsText (end_line n) (sink_effect g.O.Sink c.args.out.now c.put_end.new.out) c.put_end.result) c.pictures.ensures.value c.put_end.ensures)

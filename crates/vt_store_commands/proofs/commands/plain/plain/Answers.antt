@@ -54,7 +54,7 @@ returns-in_err-leave_pictures g c =
     let left = leaves_alike (expected_pictures words.prefix file n) (expected_pictures words.prefix other n) (end_line n)
     (call_effect g.D.Folder g.O.Sink c.read_seen.new.folder c.leave_pictures.new.folder c.args.out.now c.leave_pictures.new.out)
     (Err c.in_err-leave_pictures.field-0.0)
-    (λ told. pictures_alike words.prefix file other n (λ i low. sees.files (subst IsSome sees.took.files told) i low))
+    (λ known. pictures_alike words.prefix file other n (λ i low. sees.files (subst IsSome sees.took.files known) i low))
     c.in_err-leave_pictures.ensures in
     rw (p.1, p.2) (ends_stopped (plain_task words) (path ∷ texture ∷ []) before read (folder_state g.D.Folder c.leave_pictures.new.folder)
     (sink_state g.O.Sink c.args.out.now) (sink_state g.O.Sink c.leave_pictures.new.out) c.in_err-leave_pictures.field-0.0
@@ -79,7 +79,7 @@ returns g c =
     let left = leaves_alike (expected_pictures words.prefix file n) (expected_pictures words.prefix other n) (end_line n)
     (call_effect g.D.Folder g.O.Sink c.read_seen.new.folder c.leave_pictures.new.folder c.args.out.now c.leave_pictures.new.out)
     (Ok tt)
-    (λ told. pictures_alike words.prefix file other n (λ i low. sees.files (subst IsSome sees.took.files told) i low))
+    (λ known. pictures_alike words.prefix file other n (λ i low. sees.files (subst IsSome sees.took.files known) i low))
     c.in_ok-leave_pictures.ensures in
     ends_done (plain_task words) (path ∷ texture ∷ []) before read (folder_state g.D.Folder c.leave_pictures.new.folder)
     (sink_state g.O.Sink c.args.out.now) (sink_state g.O.Sink c.leave_pictures.new.out)

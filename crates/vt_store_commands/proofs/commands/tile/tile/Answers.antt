@@ -9,7 +9,7 @@ use Rattle.vt_command_inputs.specs.Lines.{store_line}
 use Rattle.vt_command_inputs.specs.Inputs.{TiledTexture, TextureContent, AreStrips}
 use Rattle.vt_command_inputs.specs.OpenWrites.{WritesMade}
 use Rattle.vt_command_inputs.specs.Reads.{file_state}
-use Rattle.vt_outside.specs.Expectations.{Puts}
+use Rattle.vt_outside.specs.Expectations.{PutsText}
 use Rattle.vt_command_inputs.proofs.Ending.{read_none, read_more, ends_refused, ends_done, ends_stopped}
 use Rattle.vt_command_inputs.proofs.Leaving.{left_writing, left_putting}
 use Rattle.vt_command_inputs.proofs.OpenWriting.{read_first}
@@ -63,8 +63,8 @@ returns-in_err-put_store_line g c =
     let shape = c.in_ok-reader.ensures.shape in
     let w = subst (λ (t : ℕ). WritesMade file (made_store header t) (AreStrips header t) words.store (record { before = opened; after = after }) (Ok tt))
     (ap (λ (s : Shape). s.tile) shape) c.in_ok-write_store.ensures in
-    let puts = subst (λ (s : Shape). Puts {T = Unit {0}} (store_line s texture.depth) (record { before = out; after = shown }) (Err error)) shape
-    (subst (λ (d : ℕ). Puts {T = Unit {0}} (store_line c.in_ok-reader.geometry d) (record { before = out; after = shown }) (Err error))
+    let puts = subst (λ (s : Shape). PutsText {T = Unit {0}} (store_line s texture.depth) (record { before = out; after = shown }) (Err error)) shape
+    (subst (λ (d : ℕ). PutsText {T = Unit {0}} (store_line c.in_ok-reader.geometry d) (record { before = out; after = shown }) (Err error))
     c.depth-depth.ensures.value c.in_err-put_store_line.ensures) in
     rw (p.1, p.2) (ends_stopped (tile_task words) (TextureContent texture ∷ []) before (read_first before after) after out shown error
     (read_more [] [] (TiledTexture words.texture words.tile) (TextureContent texture) before before (read_first before after) (read_none before)
@@ -87,8 +87,8 @@ returns g c =
     let shape = c.in_ok-reader.ensures.shape in
     let w = subst (λ (t : ℕ). WritesMade file (made_store header t) (AreStrips header t) words.store (record { before = opened; after = after }) (Ok tt))
     (ap (λ (s : Shape). s.tile) shape) c.in_ok-write_store.ensures in
-    let puts = subst (λ (s : Shape). Puts {T = Unit {0}} (store_line s texture.depth) (record { before = out; after = shown }) (Ok tt)) shape
-    (subst (λ (d : ℕ). Puts {T = Unit {0}} (store_line c.in_ok-reader.geometry d) (record { before = out; after = shown }) (Ok tt))
+    let puts = subst (λ (s : Shape). PutsText {T = Unit {0}} (store_line s texture.depth) (record { before = out; after = shown }) (Ok tt)) shape
+    (subst (λ (d : ℕ). PutsText {T = Unit {0}} (store_line c.in_ok-reader.geometry d) (record { before = out; after = shown }) (Ok tt))
     c.depth-depth.ensures.value c.in_ok-put_store_line.ensures) in
     ends_done (tile_task words) (TextureContent texture ∷ []) before (read_first before after) after out shown
     (read_more [] [] (TiledTexture words.texture words.tile) (TextureContent texture) before before (read_first before after) (read_none before)

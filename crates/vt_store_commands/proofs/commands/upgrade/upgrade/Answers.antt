@@ -7,7 +7,7 @@ use Rattle.vt_outside.specs.Effects.{folder_state, sink_state, sink_effect}
 use Rattle.vt_command_inputs.specs.Lines.{store_line}
 use Rattle.vt_command_inputs.specs.Inputs.{NarrowStore, NarrowContent}
 use Rattle.vt_command_inputs.specs.Reads.{file_state}
-use Rattle.vt_outside.specs.Expectations.{Puts}
+use Rattle.vt_outside.specs.Expectations.{PutsText}
 use Rattle.vt_command_inputs.proofs.Ending.{read_none, read_more, ends_refused, ends_done, ends_stopped}
 use Rattle.vt_command_inputs.proofs.Leaving.{left_writing, left_putting}
 use Rattle.vt_command_inputs.proofs.OpenWriting.{read_first}
@@ -60,7 +60,7 @@ returns-in_err-put_store_line g c =
     let o = c.in_ok-store.ensures.opens in
     let narrow = c.in_ok-store.ensures.narrow in
     let w = c.in_ok-write_wide.ensures in
-    let puts = subst (λ (s : Shape). Puts {T = Unit {0}} (store_line s 2) (sink_effect g.O.Sink c.args.out.now c.put_store_line.new.out) (Err error))
+    let puts = subst (λ (s : Shape). PutsText {T = Unit {0}} (store_line s 2) (sink_effect g.O.Sink c.args.out.now c.put_store_line.new.out) (Err error))
     c.geometry-geometry.ensures.shape c.in_err-put_store_line.ensures in
     rw (p.1, p.2) (ends_stopped (upgrade_task words) (NarrowContent store.shape bytes ∷ []) before (read_first before after) after out shown error
     (read_more [] [] (NarrowStore words.store) (NarrowContent store.shape bytes) before before (read_first before after) (read_none before)
@@ -82,7 +82,7 @@ returns g c =
     let o = c.in_ok-store.ensures.opens in
     let narrow = c.in_ok-store.ensures.narrow in
     let w = c.in_ok-write_wide.ensures in
-    let puts = subst (λ (s : Shape). Puts {T = Unit {0}} (store_line s 2) (sink_effect g.O.Sink c.args.out.now c.put_store_line.new.out) (Ok tt))
+    let puts = subst (λ (s : Shape). PutsText {T = Unit {0}} (store_line s 2) (sink_effect g.O.Sink c.args.out.now c.put_store_line.new.out) (Ok tt))
     c.geometry-geometry.ensures.shape c.in_ok-put_store_line.ensures in
     ends_done (upgrade_task words) (NarrowContent store.shape bytes ∷ []) before (read_first before after) after out shown
     (read_more [] [] (NarrowStore words.store) (NarrowContent store.shape bytes) before before (read_first before after) (read_none before)

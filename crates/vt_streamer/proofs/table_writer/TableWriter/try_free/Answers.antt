@@ -59,5 +59,5 @@ returns-in-Some-clause-waiting c =
     )
 
 pub returns-in-Some-clause-never : goal.returns-in-Some-clause-never
-returns-in-Some-clause-never c = let told = returns-in-Some-clause-waiting c in let lawful = c.requires.of.lawful in λ never.
-    absurd (was_mapped c.args.self.now.writer.journal c.args.frame told.0 (in_turn-legal c.args.self.now.shape c.args.self.now.writer.journal lawful.legal) told.1 never)
+returns-in-Some-clause-never c = let cause = returns-in-Some-clause-waiting c in let lawful = c.requires.of.lawful in λ never.
+    absurd (was_mapped c.args.self.now.writer.journal c.args.frame cause.0 (in_turn-legal c.args.self.now.shape c.args.self.now.writer.journal lawful.legal) cause.1 never)

@@ -5,7 +5,7 @@ use Rattle.vt_swap_steps.specs.Caches.{Cache, cache_of}
 use Rattle.vt_swap_steps.specs.declared.table.NewestTable.{NewestTable}
 use Rattle.vt_swap_steps.specs.declared.rule.Known.{Known}
 use Rattle.vt_swap_steps.specs.Logs.{changes_in}
-use Rattle.vt_swap_steps.specs.Told.{IsEntry}
+use Rattle.vt_swap_steps.specs.LogWords.{IsEntry}
 use Rattle.vt_swap.specs.Readers.{ReaderView, WasEntered}
 use Rattle.vt_swap.proofs.Saying.{if_entry}
 use Rattle.vt_swap.proofs.Entering.{version_known}

@@ -2,7 +2,7 @@ use Rattle.std.proofs.Common.{◌∙◌, ap, sym, subst, List, ℕ, length}
 use Rattle.std.proofs.lemmas.List.{with_items_is}
 use Rattle.vt_journal.specs.Changes.{newest, IsLegalNext, changed}
 use Rattle.vt_journal.specs.Kept.{entries_of}
-use Rattle.vt_table.specs.Views.{TableView, IsWithin, IsReady, filled_for, filled_after}
+use Rattle.vt_table.specs.Views.{TableView, IsTableChange, IsReady, filled_for, filled_after}
 use Rattle.vt_table.proofs.Keeping.{kept_published}
 use Rattle.vt_table.proofs.table.StillTable.publish.Goals as goal
 
@@ -14,7 +14,7 @@ invariant_of-self c =
     let owners = with_items_is t.owners c.free_owner.new.owners (c.free_owner.auto.owners ∙ c.as_mut_slice-2.ensures.len) in
     kept_published t.geometry t.journal.changes t.journal.spare c.push.new.self.spare t.room c.args.change t.entries.items t.bytes.items
     t.depths.items t.owners.items _ _ c.push.new.self.changes c.push.ensures.changes
-    (subst (λ (u : TableView). IsWithin u c.args.change) back c.requires.within)
+    (subst (λ (u : TableView). IsTableChange u c.args.change) back c.requires.within)
     (subst (λ (u : TableView). IsLegalNext u.shape (newest u.changes) c.args.change) back c.requires.legal)
     (subst (λ (u : TableView). IsReady u c.args.change) back c.requires.ready)
     (ap length entries ∙ c.put_entry.auto.entries ∙ ap length c.as_mut_slice.ensures.value)

@@ -3,15 +3,15 @@ use Rattle.std.specs.Prelude.{slice_range}
 use Rattle.std.proofs.lemmas.List.{get_or_read}
 use Rattle.vt_journal.specs.Depths.{texel_length}
 use Rattle.vt_journal.specs.Changes.{newest}
-use Rattle.vt_table.specs.Views.{TableView, IsMapped, tile_of}
+use Rattle.vt_table.specs.Views.{TableView, IsMappedTo, tile_of}
 use Rattle.vt_table.proofs.Keeping.{tile_read}
 use Rattle.vt_table.proofs.table.StillTable.tile.Goals as goal
 
 pub returns-clause-tile : goal.returns-clause-tile
 returns-clause-tile c =
     let t = c.self.inside in
-    let mapped : IsMapped (newest t.journal.changes) c.args.frame =
-    subst (λ (u : TableView). IsMapped (newest u.changes) c.args.frame) (sym c.self.view_is) c.requires.mapped in
+    let mapped : IsMappedTo (newest t.journal.changes) c.args.frame =
+    subst (λ (u : TableView). IsMappedTo (newest u.changes) c.args.frame) (sym c.self.view_is) c.requires.mapped in
     let inside : c.args.frame < length t.owners.items = c.self.invariant.table.frames_inside mapped.0 c.args.frame mapped.1 in
     let read : c.index.result.now ≡ get_or t.depths.items c.args.frame 0 =
     get_or_read t.depths.items c.args.frame c.index.result.now (omega (arith, c.self.invariant.all_depths)) c.index.ensures 0 in

@@ -1,5 +1,5 @@
-use Rattle.vt_tests_words.specs.SmallStreams.{IsSmall}
+use Rattle.vt_tests_words.specs.SmallStreams.{IsSmallStreamer}
 use Rattle.vt_tests_words.proofs.streamer.patient.goes_out.Given as goal
 
 abbrev pub invariant-loop-turn : goal.invariant-loop-turn
-invariant-loop-turn l = IsSmall l.words 3 l.streamer
+invariant-loop-turn l = IsSmallStreamer l.words 3 l.streamer

@@ -4,8 +4,8 @@ use Rattle.vt_tiles.specs.StoreViews.{StoreView}
 use Rattle.vt_command_inputs.specs.Effects.{folder_state, sink_state}
 use Rattle.vt_command_words.specs.Replay.{shown_replay}
 use Rattle.vt_command_inputs.specs.Inputs.{JournalInput, TextContent}
-use Rattle.vt_command_inputs.specs.Reads.{file_state, OpensStore, Took}
-use Rattle.vt_walk_commands.proofs.Replaying.{HasInputs, path_refused, store_refused, journal_refused, answer_refused, answer_untold, answer_told}
+use Rattle.vt_command_inputs.specs.Reads.{file_state, OpensStore, TookInput}
+use Rattle.vt_walk_commands.proofs.Replaying.{HasInputs, path_refused, store_refused, journal_refused, answer_refused, answer_unknown, answer_known}
 use Rattle.vt_walk_commands.proofs.commands.replay.replay.Goals as goal
 
 pub returns-in_err-path : goal.returns-in_err-path
@@ -45,8 +45,8 @@ returns-in_err-pictures g c =
     let opened : OpensStore words.store store.shape store.depth file (record { before = f1; after = f2 }) =
     subst (λ (s : StoreView _). OpensStore words.store s.shape s.depth (file_state g.D.File.File s.file) (record { before = f1; after = f2 }))
     (sym c.in_ok-store-2.ensures.same) c.in_ok-store.ensures.opens in
-    let read : Took (JournalInput words.journal) (TextContent text) (record { before = f2; after = f3 }) =
-    subst (λ (t : List ℕ). Took (JournalInput words.journal) (TextContent t) (record { before = f2; after = f3 }))
+    let read : TookInput (JournalInput words.journal) (TextContent text) (record { before = f2; after = f3 }) =
+    subst (λ (t : List ℕ). TookInput (JournalInput words.journal) (TextContent t) (record { before = f2; after = f3 }))
     (sym c.deref.ensures.value) c.in_ok-store-2.ensures.took in
     let inputs : HasInputs words c.in_ok-path.path store.shape store.depth file text f0 f1 f2 f3 =
     record { path_read = c.in_ok-path.ensures; opened = opened; text_read = read } in
@@ -69,13 +69,13 @@ returns-in_err-put_end g c =
     let opened : OpensStore words.store store.shape store.depth file (record { before = f1; after = f2 }) =
     subst (λ (s : StoreView _). OpensStore words.store s.shape s.depth (file_state g.D.File.File s.file) (record { before = f1; after = f2 }))
     (sym c.in_ok-store-2.ensures.same) c.in_ok-store.ensures.opens in
-    let read : Took (JournalInput words.journal) (TextContent text) (record { before = f2; after = f3 }) =
-    subst (λ (t : List ℕ). Took (JournalInput words.journal) (TextContent t) (record { before = f2; after = f3 }))
+    let read : TookInput (JournalInput words.journal) (TextContent text) (record { before = f2; after = f3 }) =
+    subst (λ (t : List ℕ). TookInput (JournalInput words.journal) (TextContent t) (record { before = f2; after = f3 }))
     (sym c.deref.ensures.value) c.in_ok-store-2.ensures.took in
     let inputs : HasInputs words c.in_ok-path.path store.shape store.depth file text f0 f1 f2 f3 =
     record { path_read = c.in_ok-path.ensures; opened = opened; text_read = read } in
     let e = c.play-played.ensures in
-    rw (p.1, p.2) (answer_untold words c.in_ok-path.path store.shape store.depth file text f0 f1 f2 f3 f4 (sink_state g.O.Sink c.args.out.now)
+    rw (p.1, p.2) (answer_unknown words c.in_ok-path.path store.shape store.depth file text f0 f1 f2 f3 f4 (sink_state g.O.Sink c.args.out.now)
     (sink_state g.O.Sink c.put_end.new.out) c.play-played.result c.in_ok-pictures.pictures c.in_err-put_end.field-0.0 inputs e.closed e.leaves
     c.in_ok-pictures.ensures c.in_err-put_end.ensures)
 
@@ -93,12 +93,12 @@ returns g c =
     let opened : OpensStore words.store store.shape store.depth file (record { before = f1; after = f2 }) =
     subst (λ (s : StoreView _). OpensStore words.store s.shape s.depth (file_state g.D.File.File s.file) (record { before = f1; after = f2 }))
     (sym c.in_ok-store-2.ensures.same) c.in_ok-store.ensures.opens in
-    let read : Took (JournalInput words.journal) (TextContent text) (record { before = f2; after = f3 }) =
-    subst (λ (t : List ℕ). Took (JournalInput words.journal) (TextContent t) (record { before = f2; after = f3 }))
+    let read : TookInput (JournalInput words.journal) (TextContent text) (record { before = f2; after = f3 }) =
+    subst (λ (t : List ℕ). TookInput (JournalInput words.journal) (TextContent t) (record { before = f2; after = f3 }))
     (sym c.deref.ensures.value) c.in_ok-store-2.ensures.took in
     let inputs : HasInputs words c.in_ok-path.path store.shape store.depth file text f0 f1 f2 f3 =
     record { path_read = c.in_ok-path.ensures; opened = opened; text_read = read } in
     let e = c.play-played.ensures in
-    answer_told words c.in_ok-path.path store.shape store.depth file text f0 f1 f2 f3 f4 (sink_state g.O.Sink c.args.out.now)
+    answer_known words c.in_ok-path.path store.shape store.depth file text f0 f1 f2 f3 f4 (sink_state g.O.Sink c.args.out.now)
     (sink_state g.O.Sink c.put_end.new.out) c.play-played.result c.in_ok-pictures.pictures inputs e.closed e.leaves e.refused
     c.in_ok-pictures.ensures c.in_ok-put_end.ensures

@@ -2,14 +2,14 @@ use Rattle.std.proofs.Common.{◌≡◌, ℕ, suc, ◌+◌, List, [], ◌∷◌,
 use Rattle.std.specs.Prelude.{sum_by}
 use Rattle.std.specs.List.{range_with_len}
 use Rattle.std.proofs.lemmas.List.Sums.{sum_by_push}
-use Rattle.vt_outside.specs.MemoryFolder.{files_of}
+use Rattle.vt_outside.specs.MemoryFolder.{memory_files}
 use Rattle.vt_draw.proofs.Drawn.{range_more}
 use Rattle.vt_walk_commands.specs.commands.Trial.{differing_in}
 use Rattle.vt_walk_commands.proofs.commands.trial.count_differing.Goals as goal
 
 pub loop-picture-preserved : goal.loop-picture-preserved
 loop-picture-preserved g c =
-    let f : ℕ → ℕ = differing_in (files_of c.args.folder.now) c.args.chain.now c.args.path.now in
+    let f : ℕ → ℕ = differing_in (memory_files c.args.folder.now) c.args.chain.now c.args.path.now in
     let k : ℕ = c.loop-picture.picture in
     let next : k + 1 ≡ suc k = omega arith in
     let more : sum_by f (range_with_len 0 (k + 1)) ≡ sum_by f (range_with_len 0 k) + f k =

@@ -1,5 +1,0 @@
-use Rattle.std.proofs.Common.{rules}
-use Rattle.vt_text.proofs.pieces.tell_pieces.Goals as goal
-
-pub returns : goal.returns
-returns g c = search rules
