@@ -2,8 +2,8 @@ use Rattle.std.proofs.Common.{refl}
 use Rattle.vt_outside.proofs.UnknownContents.{IfOk-all, OnOk-all, OnErr-all, same-if, Rose-raised}
 use Rattle.vt_outside.proofs.real_folder.RealFolderFolder.TheImpl.Goals as goal
 
-pub open-known_too : goal.open-known_too
-open-known_too g c = record {
+pub open-tells : goal.open-tells
+open-tells g c = record {
   bytes = IfOk-all c.result _ (λ _. refl);
   known_too = IfOk-all c.result _ (λ _. refl);
   no_places = IfOk-all c.result _ (λ _. refl);
@@ -15,16 +15,16 @@ open-known_too g c = record {
   faults = c.ensures.rises;
 }
 
-pub create-known_too : goal.create-known_too
-create-known_too g c = record {
+pub create-tells : goal.create-tells
+create-tells g c = record {
   files = same-if _ _;
   failed = Rose-raised c.result _ _ c.ensures.faults;
   asked = refl;
   faults = c.ensures.rises;
 }
 
-pub append-known_too : goal.append-known_too
-append-known_too g c = record {
+pub append-tells : goal.append-tells
+append-tells g c = record {
   files = OnOk-all c.result _ refl;
   there = OnOk-all c.result _ tt;
   part = OnErr-all c.result _ (0, refl);
