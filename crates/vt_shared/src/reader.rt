@@ -1,6 +1,6 @@
 //! A reader of a table of shared words, which one thread at a time uses.
 
-ghost use Rattle.std.specs.Prelude.{◌≡◌, ◌*◌, ◌<◌, true, length, IfSome, IfNone};
+ghost use Rattle.std.specs.Prelude.{◌≡◌, ◌≢◌, ◌*◌, ◌<◌, true, length, IfSome, IfNone, MatchOption};
 ghost use Rattle.std.specs.List.{All};
 ghost use Rattle.std.specs.Bool.{MatchBool};
 ghost use Rattle.std.specs.Arc.{arc_value};
@@ -8,12 +8,13 @@ ghost use Rattle.vt_definitions.specs.Depths.{IsDepth, texel_length};
 ghost use Rattle.vt_pages.specs.Pages.{pages_of};
 ghost use Rattle.vt_draw.specs.Lookups.{IsFinestFound};
 ghost use Rattle.vt_grace.specs.Tokens.{IsPassOf, IsHeldOf};
+ghost use Rattle.vt_grace.specs.Values.{PassValue};
 ghost use Rattle.vt_lookup.specs.Notes.{FitsShape, IsNotedIn, HasNotedMore};
 ghost use Rattle.vt_texel_runs.specs.Points.{IsPoint, AreAnswered};
 ghost use Rattle.vt_texel_runs.specs.Blends.{AreBlendsAlong};
 ghost use Rattle.vt_shared.specs.Readers.{left_by, HoldsOne, HoldsNone, HasTakenHold, HasReleased, HasLookedUp, HasReadTexels, HasReadRun, HasBlendedRun};
 ghost use Rattle.vt_texel_runs.specs.Spans.{IsSpanInside, AreSpanned, AreWantedBySpan};
-ghost use Rattle.vt_shared.specs.declared.reader.Stand.TheVariants.{Resting};
+ghost use Rattle.vt_shared.specs.declared.reader.Stand.TheVariants.{Gone, Resting, Holding};
 
 use std::alloc::Global;
 use std::marker::Model;
@@ -56,6 +57,22 @@ impl Model for Reader {
     ghost view = { λ r. record { words = arc_value r.words; shape = r.geometry; depth = r.depth; sampler = r.sampler; stand = r.stand } };
 
     ghost invariant = { λ r. IsReaderStanding (arc_value r.words) r.geometry r.depth r.sampler r.stand };
+}
+
+// Takes the hold out of a stand. One that rests stays as it was.
+fn take_hold(stand: &mut Stand) -> Option<Held>
+    requires { stand.old ≢ Gone }
+    ensures { MatchOption result ((stand.new ≡ stand.old) × ((pass : PassValue) × (stand.old ≡ Resting pass)))
+        (λ held. (stand.new ≡ Gone) × (stand.old ≡ Holding held)) }
+{
+    match mem::replace(stand, Stand::Gone) {
+        Stand::Holding(held) => Some(held),
+        Stand::Resting(pass) => {
+            *stand = Stand::Resting(pass);
+            None
+        }
+        Stand::Gone => unreachable!(),
+    }
 }
 
 // Looks a page up under a hold.
@@ -233,16 +250,12 @@ impl Reader {
     pub fn release(&mut self) -> bool
         ensures { MatchBool result (HasReleased self.old self.new) ((self.new ≡ self.old) × HoldsNone self.old) }
     {
-        match mem::replace(&mut self.stand, Stand::Gone) {
-            Stand::Holding(held) => {
+        match take_hold(&mut self.stand) {
+            Some(held) => {
                 self.stand = Stand::Resting(held.unpin(&*self.words));
                 true
             }
-            Stand::Resting(pass) => {
-                self.stand = Stand::Resting(pass);
-                false
-            }
-            Stand::Gone => unreachable!(),
+            None => false,
         }
     }
 
@@ -253,17 +266,13 @@ impl Reader {
         ensures none { IfNone result (self.new ≡ self.old) }
         ensures holds_none { IfNone result (HoldsNone self.old) }
     {
-        match mem::replace(&mut self.stand, Stand::Gone) {
-            Stand::Holding(held) => {
+        match take_hold(&mut self.stand) {
+            Some(held) => {
                 let (held, found) = find_under(held, &*self.words, &self.geometry, page);
                 self.stand = Stand::Holding(held);
                 Some(found)
             }
-            Stand::Resting(pass) => {
-                self.stand = Stand::Resting(pass);
-                None
-            }
-            Stand::Gone => unreachable!(),
+            None => None,
         }
     }
 
@@ -276,17 +285,13 @@ impl Reader {
         ensures holds_none { MatchBool result (Unit {0}) (HoldsNone self.old) }
         ensures long { length out.new ≡ length out.old }
     {
-        match mem::replace(&mut self.stand, Stand::Gone) {
-            Stand::Holding(held) => {
+        match take_hold(&mut self.stand) {
+            Some(held) => {
                 let held = read_under(held, &*self.words, &self.geometry, self.depth, points, out);
                 self.stand = Stand::Holding(held);
                 true
             }
-            Stand::Resting(pass) => {
-                self.stand = Stand::Resting(pass);
-                false
-            }
-            Stand::Gone => unreachable!(),
+            None => false,
         }
     }
 
@@ -302,8 +307,8 @@ impl Reader {
         ensures long { length out.new ≡ length out.old }
         ensures wide { length pages.new ≡ length pages.old }
     {
-        match mem::replace(&mut self.stand, Stand::Gone) {
-            Stand::Holding(held) => {
+        match take_hold(&mut self.stand) {
+            Some(held) => {
                 let held = run_under(
                     held,
                     &*self.words,
@@ -316,11 +321,7 @@ impl Reader {
                 self.stand = Stand::Holding(held);
                 true
             }
-            Stand::Resting(pass) => {
-                self.stand = Stand::Resting(pass);
-                false
-            }
-            Stand::Gone => unreachable!(),
+            None => false,
         }
     }
 
@@ -336,8 +337,8 @@ impl Reader {
         ensures long { length out.new ≡ length out.old }
         ensures wide { length pages.new ≡ length pages.old }
     {
-        match mem::replace(&mut self.stand, Stand::Gone) {
-            Stand::Holding(held) => {
+        match take_hold(&mut self.stand) {
+            Some(held) => {
                 let held = blends_under(
                     held,
                     &*self.words,
@@ -350,11 +351,7 @@ impl Reader {
                 self.stand = Stand::Holding(held);
                 true
             }
-            Stand::Resting(pass) => {
-                self.stand = Stand::Resting(pass);
-                false
-            }
-            Stand::Gone => unreachable!(),
+            None => false,
         }
     }
 
