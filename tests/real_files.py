@@ -3,8 +3,8 @@
 
 usage: real_files.py [PROGRAM]     (crates/vtex/out/vtex where it is left out, which `rt run` builds if it is not there)
 
-Part of the gate. Each row of the tables of real_rows.py is one run in a folder of its own, several at once; `Checks` says what that folder holds
-before. The results are compared with those of the modules behind reference.py, which are called here, with those of client.py, and for large textures
+Part of the gate. Each row of the tables of real_rows.py and real_runs.py is tried in a folder of its own, several at once; `Checks` says what that
+folder holds before. The results are compared with those of the modules behind reference.py, which are called here, with those of client.py, and for large textures
 with those of tiles.c, which wants gcc. Where g++ is installed engine.py is run, and where netpbm, ImageMagick or ffmpeg are, textures of theirs are
 read. It prints a line for each check that failed and for each that was skipped, and at last how many passed and failed. The status is 0 where none
 failed.
@@ -26,6 +26,7 @@ from journals import Journal, replay
 from judge import FAULT, LINES, Doubt, Left, flaws_of_walk
 from real_rows import BLANKS, DEFAULTS, GENERATED, HEAD, JOURNALS, KEYS, LARGE_OTHERS, LARGE_PATH, LARGE_STORES, LONG_SIDES, NO_STORES, ODD, OPTIONS
 from real_rows import OTHERS, PATHS, PICTURES, READ_WORDS, REFUSALS, REFUSED_TEXTURES, REFUSED_WORDS, STORE_FLAWS, STORES, TEXTURES, WALKS, bad_input
+from real_runs import ALONE, FLIGHTS, LEAST, MANY, RUNS, SHOWN, TOUR, WALKED
 from reference import walk_words, write
 from rows import FOUR_STORE, wrong_rows
 from stores import Path, Store, contents
@@ -486,6 +487,71 @@ def pixels_by_filter(check):
     check.say(pictures("nearest") != pictures("bilinear"), "pictures by the two filters")
 
 
+def lay(files):
+    """Makes these all that the folder holds."""
+    for name in os.listdir():
+        os.remove(name)
+    for name, data in files.items():
+        write(name, data)
+
+
+def ends(check, run):
+    """A run over its files alone prints what it is to, and has its status."""
+    lay(run.files)
+    ran = check.run(run.words)
+    return (ran.returncode, ran.stdout, ran.stderr) == (run.status, run.out, run.err)
+
+
+def leaves(run, shown):
+    """The folder holds the files of a run, what it leaves, the pictures that it is to show, and nothing else."""
+    wanted = {**run.files, **run.left, **{"f%04d.ppm" % number: data for number, data in enumerate(shown)}}
+    found = held()
+    is_like = lambda data, it: data == it if isinstance(it, bytes) else it.fullmatch(data)
+    return found.keys() == wanted.keys() and all(is_like(found[name], it) for name, it in wanted.items())
+
+
+def is_replayed(check, run, shown):
+    """The journal that a walk left is replayed to the pictures that it showed."""
+    text = contents("j.txt")
+    lay({**run.files, "j.txt": text})
+    ran = check.run("replay s.vts a.path j.txt f")
+    return is_done(ran, b"end pictures %d\n" % len(shown)) and leaves(run, shown) and contents("j.txt") == text
+
+
+def try_run(check, what, run):
+    check.say(ends(check, run) and leaves(run, run.pictures), "%s: %s" % (run.words, what))
+
+
+def try_walked(check, what, run):
+    good = ends(check, run) and leaves(run, run.pictures) and is_replayed(check, run, run.pictures)
+    check.say(good, "%s, and its replay: %s" % (run.words, what))
+
+
+def try_flight(check, run):
+    is_ended, found = ends(check, run), run.left["j.txt"].fullmatch(contents("j.txt") or b"")
+    shown = [by_version[int(version) - least] for by_version, version, least in zip(SHOWN, found.groups(), LEAST)] if found else []
+    check.say(is_ended and found and leaves(run, shown) and is_replayed(check, run, shown), "%s, and its replay" % run.words)
+
+
+def walks_alike(check):
+    """A hundred settled walks by many workers leave and print what that by one of each does."""
+    write("a.path", TOUR)
+    good = is_done(check.run("gen 7 512 512 t.ppm")) and check.run("tile t.ppm s.vts --tile 16").returncode == 0
+    alone, wanted = check.run(ALONE), pictures("f")
+    check.say(good and is_done(alone, alone.stdout) and len(wanted) == 3, ALONE)
+    for number in range(100):
+        for name in glob.glob("f????.ppm"):
+            os.remove(name)
+        check.say(is_done(check.run(MANY), alone.stdout) and pictures("f") == wanted, "%s: walk %d" % (MANY, number))
+
+
+def most_frames(check):
+    """The frames of a walk have 8,388,608 texels at most: 32,768 of them where each has 16x16."""
+    check.say(is_done(check.run("tile g4.ppm s.vts --tile 16"), b"store 4 4 tile 16 levels 1 pages 1 bytes 784\n"), "a store of large tiles")
+    check.say(check.refuses("walk s.vts a.path f --frames 32769", 2, LINES[2]), "a frame too many")
+    check.say(check.run("walk s.vts a.path f --frames 32768").returncode == 0, "as many frames as may be")
+
+
 def try_trial(check):
     first, second = check.run("trial 7"), check.run("trial 7")
     check.say(is_done(first, trial(7)[0]), "trial 7")
@@ -547,6 +613,11 @@ TABLES = [
     (rows_by_sampler, [()]),
     (pixels_by_filter, [()]),
     (try_text, [("row.txt", "replay g4.vts a.path row.txt row", *row) for row in JOURNALS]),
+    (try_run, RUNS),
+    (try_walked, WALKED),
+    (try_flight, [(run,) for run in FLIGHTS]),
+    (walks_alike, [()]),
+    (most_frames, [()]),
     (try_trial, [()]),
 ]
 JOBS = [(job, row) for job, rows in TABLES for row in rows]
