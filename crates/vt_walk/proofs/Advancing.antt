@@ -167,6 +167,17 @@ pub record HasRoom (step : WalkStep) (events : List Event) : Type 0 where
   pub evicted : step.tally.evicted + length events < 2 ^ 64
   pub reads : step.reads + length step.batch.elements < 2 ^ 64
 
+-- however the run of a pass ended, its files were read for a part of its batch at most
+pub read_for_job : (draws : Drawing) (drawn : PathView → ℕ → ℕ → ℕ → List ℕ → Type 0) (idle : Type 0) (job : Job) (m after : MachineState)
+    (result : Result PassReport NoMemory) → IsJobFor m.setup job → EndsPassRun draws drawn idle job result m after
+    → ArePartlyReadFor job.scene.shape job.scene.depth job.batch m.files after.files
+read_for_job draws drawn idle job m after (Ok report) is ends =
+    read_partly job.scene.shape job.scene.depth job.batch report.losses.elements m.files after.files ends.ran.outcome.reported
+    (subst (λ (x : Shape × ℕ). AreReadFor x.0 x.1 job.batch report.losses.elements m.files after.files) (λ i. (sym is.shape i, sym is.depth i))
+    ends.ran.read)
+read_for_job draws drawn idle job m after (Err refusal) is ends =
+    subst (λ (x : Shape × ℕ). ArePartlyReadFor x.0 x.1 job.batch m.files after.files) (λ i. (sym is.shape i, sym is.depth i)) ends.broke.read
+
 module _ (draws : Drawing)
     (t : WalkInput) (known : Option (List ℕ)) where
   pub may_prepare : (run : List WalkPass) (number : ℕ) (step : WalkStep) (m : MachineState) (v : RecencyView) → IsWalkInput t → number < 4294967296
@@ -241,15 +252,6 @@ module _ (draws : Drawing)
       → ArePartlyReadFor t.geometry.now t.depth step.batch.elements m.files after.files
   read_broken run number step m after v may broke =
       subst (λ (x : Setup). ArePartlyReadFor x.shape x.depth step.batch.elements m.files after.files) may.at_run.setup broke.read
-
-  -- however its run ended
-  pub read_ended : (drawn : PathView → ℕ → ℕ → ℕ → List ℕ → Type 0) (idle : Type 0) (run : List WalkPass) (number : ℕ) (step : WalkStep)
-      (m after : MachineState) (v : RecencyView) (result : Result PassReport NoMemory)
-      → MayTakeStep (given_of draws t known) run number step m v
-      → EndsPassRun draws drawn idle (record { scene = input_scene t; picture = step.picture; batch = step.batch.elements }) result m after
-      → ArePartlyReadFor t.geometry.now t.depth step.batch.elements m.files after.files
-  read_ended drawn idle run number step m after v (Ok report) may ends = read_at_most drawn run number step m after v report may ends.ran
-  read_ended drawn idle run number step m after v (Err refusal) may ends = read_broken run number step m after v may ends.broke
 
   pub has_drawn : (drawn : PictureDrawn) (run : List WalkPass) (number start : ℕ) (step : WalkStep)
       (m after : MachineState)

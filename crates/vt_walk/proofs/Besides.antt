@@ -4,14 +4,12 @@ use Rattle.std.specs.Prelude.{option_map, All}
 use Rattle.std.specs.List.{concat}
 use Rattle.vt_outside.specs.Counts.{Rose}
 use Rattle.vt_outside.specs.Files.{with_bytes, gained}
-use Rattle.vt_outside.specs.declared.answers.NoMemory.{NoMemory as Refusal}
 use Rattle.vt_outside.specs.declared.answers.OutsideError.{OutsideError}
 use Rattle.vt_outside.specs.declared.answers.OutsideError.TheVariants.{Failed}
 use Rattle.vt_outside.specs.declared.outside.Folder.{Ghosts as FolderMeanings}
 use Rattle.vt_pages.specs.Pages.{IsWithinLimits}
 use Rattle.vt_ppm.specs.Picture.{picture_bytes}
 use Rattle.vt_pictures.specs.Names.{picture_name}
-use Rattle.vt_camera.specs.Paths.{PathView}
 use Rattle.vt_journal.specs.Changes.{Table}
 use Rattle.vt_tiles.specs.StoreViews.{IsStore}
 use Rattle.vt_plan.specs.Views.{RecencyView}
@@ -22,7 +20,7 @@ use Rattle.vt_walk_decisions.specs.MachineTypes.crew.PassReport.{PassReport}
 use Rattle.vt_walk_decisions.specs.Drawings.{Drawing}
 use Rattle.vt_walk_decisions.specs.Requests.{FileState, ArePartlyReadFor}
 use Rattle.vt_walk_decisions.specs.Machines.{MachineState}
-use Rattle.vt_walk_decisions.specs.Passes.{MapsNeeded, MayPrepare, IsJobFor, Ran, EndsPassRun}
+use Rattle.vt_walk_decisions.specs.Passes.{MapsNeeded, MayPrepare, IsJobFor, Ran}
 use Rattle.vt_walk_decisions.specs.declared.error.WalkError.{WalkError}
 use Rattle.vt_walk_decisions.specs.declared.error.WalkError.TheVariants as walk_error
 use Rattle.vt_walk_decisions.specs.declared.input.WalkInput.{WalkInput}
@@ -41,7 +39,7 @@ use Rattle.vt_walk.specs.WalkInputs.{given_of, input_scene, IsWalkInput}
 use Rattle.vt_walk.specs.Writing.{WritesFile}
 use Rattle.vt_walk.specs.WalkSteps.{MayTakeStep, HasDrawnPass, StandsAtStep, StandsAfter, LeftByRefusal}
 use Rattle.vt_walk.specs.Following.{StandsRan, StandsDrawn}
-use Rattle.vt_walk.proofs.Advancing.{may_prepare, is_job, read_at_most, read_ended}
+use Rattle.vt_walk.proofs.Advancing.{may_prepare, is_job, read_at_most}
 use Rattle.vt_walk.proofs.Ending.{rows_count, rows_full, stays, next_may, next_picture, picture_broke, line_broke}
 use Rattle.vt_walk.proofs.Going.{room_left}
 use Rattle.vt_walk.proofs.Passing.{may_draw, pass_broke}
@@ -103,12 +101,6 @@ module _ (draws : Drawing) (drawn : PictureDrawn)
 
     pub is_next_job : (was : WalkState) → StandsAfter drawn given number p first was m v → IsJobFor m.setup job
     is_next_job was s = is_job draws t known (s.pass ∷ s.run) (number + 1) (next_step p) m v (may_next was s)
-
-    pub next_read : (was : WalkState) → StandsAfter drawn given number p first was m v → (by : PathView → ℕ → ℕ → ℕ → List ℕ → Type 0) (idle : Type 0)
-        (n : MachineState) (ran : Result PassReport Refusal) → EndsPassRun draws by idle job ran m n
-        → ArePartlyReadFor t.geometry.now t.depth p.next_plan.plan.elements m.files n.files
-    next_read was s by idle n ran ends =
-        read_ended draws t known by idle (s.pass ∷ s.run) (number + 1) (next_step p) m n v ran (may_next was s) ends
 
     module _ {D F T : Type 0} (d : FolderMeanings D F) (store : List ℕ) (kept : FileState) (held : Option (List ℕ)) (out_faults : ℕ) (before after : D)
         (name bytes : List ℕ) (r : Result T OutsideError) (n : MachineState)

@@ -22,7 +22,7 @@ use Rattle.vt_walk.specs.Standing.{Finished}
 use Rattle.vt_walk.specs.Leaving.{Left}
 use Rattle.vt_walk.specs.Causes.{reads_lost, HasFailed, IsCausedBy}
 use Rattle.vt_walk.specs.Beginnings.{AreKnown, IsSameFile}
-use Rattle.vt_walk.specs.Closing.{with_closed, AreOtherNamesAsBefore}
+use Rattle.vt_walk.specs.Closing.{with_closed, AreOtherNamesAsBefore, HasClosed}
 use Rattle.vt_walk.specs.WalkSteps.{LeftByRefusal}
 use Rattle.vt_walk.proofs.Asks.{sum-one}
 use Rattle.vt_walk.proofs.Closings.{AreSamePlaces, IsAlike, alike_itself, closed_alike, same_open}
@@ -71,6 +71,20 @@ others_chain name first None last one two = record {
 others_chain name first (Some m) last one two = record {
   all_known = two.all_known ∙ one.all_known;
   same = λ old new q was now other. two.same m new q refl now other ∙ one.same old m q was refl other;
+}
+
+-- where nothing was asked, a walk has closed what it opened
+pub closed_same : (name : List ℕ) (opened : List FileState) (a b : Option Asked) (m n k : ℕ) → AreOpen 1 name a opened → b ≡ a → m ≤ n
+    → HasClosed name (record { opened = opened; asked = a; faults = m; out_faults = k })
+    (record { opened = opened; asked = b; faults = n; out_faults = k })
+closed_same name opened a b m n k are is rises = record {
+  opened = subst (λ (o : Option Asked). AreOpen 1 name o opened) (sym is) are;
+  others = record {
+    all_known = ap (λ (o : Option Asked). is_some o) is;
+    same = λ old new q was now other. let same : new ≡ old = cc in ap (λ (asked : Asked). asked q) same;
+  };
+  faults = rises;
+  out_faults = omega arith;
 }
 
 module _ {D F : Type 0} (d : FolderMeanings D F) (name : List ℕ) where

@@ -9,14 +9,24 @@ use mathlib.Core.Path.{fun_ext}
 use Rattle.vt_outside.specs.Files.{Asked, with_places}
 use Rattle.vt_outside.specs.declared.place.Place.{Place}
 use Rattle.vt_outside.specs.declared.outside.File.{Ghosts as FileMeanings}
+use Rattle.vt_outside.specs.declared.outside.Folder.{Ghosts as FolderMeanings}
 use Rattle.vt_pages.specs.Shape.{Shape}
 use Rattle.vt_tiles.specs.StoreViews.{StoreView}
 use Rattle.vt_walk_decisions.specs.Requests.{counts_of}
 use Rattle.vt_walk_decisions.specs.Machines.{files_of, known_bytes}
 use Rattle.vt_walk.specs.States.{places_of}
 use Rattle.vt_walk.specs.Closing.{with_closed, AreFresh}
-use Rattle.vt_walk.specs.Opening.{IsFresh}
+use Rattle.vt_walk.specs.Opening.{IsFresh, KeepsFolder}
 use Rattle.vt_walk.proofs.Asks.{sum-one}
+
+-- one more file was opened
+pub opened_more : {D F : Type 0} (d : FolderMeanings D F) (a b c : D) → KeepsFolder d a b → d.files c ≡ d.files b → d.asked c ≡ d.asked b
+    → d.faults b ≤ d.faults c → KeepsFolder d a c
+opened_more d a b c first files asked faults = record {
+  files = files ∙ first.files;
+  asked = asked ∙ first.asked;
+  faults = let m = first.faults in omega (arith, m, faults);
+}
 
 -- the last one is closed first
 pub closed_last : {F : Type 0} (g : FileMeanings F) (stores : List (StoreView F)) (x : StoreView F) (asked : Option Asked)

@@ -1,6 +1,6 @@
 -- Placing the pinned pages, one after another.
 use Rattle.std.proofs.Common.{◌≡◌, ◌≢◌, ℕ, zero, suc, ◌+◌, ◌-◌, ◌<◌, ◌≤◌, inl, inr, Bool, true, false, ◌&&◌, ◌==◌, cond, List, [], ◌∷◌, ◌++◌, length, map, Option, Some, None, refl, sym, ap, ◌∙◌, subst, append_assoc, arith}
-use Rattle.std.specs.Prelude.{option_map, count_by, sum_by}
+use Rattle.std.specs.Prelude.{option_map, is_some, count_by, sum_by}
 use Rattle.std.specs.List.{range_with_len}
 use Rattle.std.proofs.lemmas.List.FromFn.{map-range_with_len_more, length-map-range_with_len}
 use Rattle.std.proofs.lemmas.List.Sums.{sum_by_push}
@@ -9,10 +9,12 @@ use Rattle.vt_ppm.specs.Depths.{IsDepth}
 use Rattle.vt_outside.specs.Files.{noted}
 use Rattle.vt_outside.specs.Places.{times_asked, times_failed, is_read_of}
 use Rattle.vt_outside.specs.declared.place.Place.{Place}
+use Rattle.vt_outside.specs.declared.outside.File.{Ghosts as FileMeanings}
 use Rattle.vt_pages.specs.Shape.{Shape}
 use Rattle.vt_pages.specs.Pages.{IsWithinLimits, pages_of}
 use Rattle.vt_tiles.specs.Format.{tile_start, tile_length}
 use Rattle.vt_tiles.specs.Places.{TileAsked}
+use Rattle.vt_tiles.specs.StoreViews.{StoreView}
 use Rattle.vt_journal.specs.declared.changes.Change.{Change}
 use Rattle.vt_journal.specs.declared.changes.Change.TheVariants.{Map}
 use Rattle.vt_journal.specs.Changes.{Table, changed, newest, IsNext}
@@ -23,10 +25,25 @@ use Rattle.vt_walk_decisions.specs.Machines.{MachineState}
 use Rattle.vt_walk_decisions.specs.Passes.{with_placed}
 use Rattle.vt_walk_decisions.specs.Requests.{is_tile_at, times_planned}
 use Rattle.vt_walk.specs.Reads.{AreAskedFor, AreAskedAtMostFor, OnKnown, lost_reads}
-use Rattle.vt_walk.specs.Placing.{with_changes, first_pinned, tile_place, with_tiles}
+use Rattle.vt_walk.specs.Placing.{KeepsStore, with_changes, first_pinned, tile_place, with_tiles}
 use Rattle.vt_walk.proofs.Asking.{count_both}
 use Rattle.vt_walk.proofs.LostReads.{some_byte, same_factor}
 use Rattle.vt_walk.proofs.Showing.{other_number}
+
+-- what is known is known after it was changed
+pub still_known : {X Y : Type 0} (f : X → Y) (before : Option X) (after : Option Y) → after ≡ option_map f before → is_some after ≡ is_some before
+still_known f None after is = ap is_some is
+still_known f (Some x) after is = ap is_some is
+
+-- what two reads keep is kept
+pub store_kept : {F : Type 0} (f : FileMeanings F) (a b c : StoreView F) → KeepsStore f a b → KeepsStore f b c → KeepsStore f a c
+store_kept f a b c first then = record {
+  same = record { name = then.same.name ∙ first.same.name; all_known = then.same.all_known ∙ first.same.all_known };
+  bytes = then.bytes ∙ first.bytes;
+  shape = then.shape ∙ first.shape;
+  depth = then.depth ∙ first.depth;
+  faults = let m = first.faults in let n = then.faults in omega (arith, m, n);
+}
 
 -- the first pinned pages, each in its own frame, and no other page are mapped
 newest_of_first : (s : Shape) (pinned n q f : ℕ) → newest (first_pinned s pinned n) q ≡ Some f → (f < n) × (q ≡ pages_of s - pinned + f)

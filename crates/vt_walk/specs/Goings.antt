@@ -91,6 +91,11 @@ TakesSteps w before after result = (b : WalkStart) → AtFirst w b before → Ma
 abbrev pub WalksOn : WalkBy → Moment → Moment → Result Walked WalkError → Type 0
 WalksOn w before after result = (b : WalkStart) → AtFirst w b before → MatchResult result (λ _. AtEnd w b after) (IsLeft w b after)
 
+-- from a pass that was drawn to where it is journaled
+abbrev pub JournalsPass : WalkBy → ℕ → Drawn → Moment → Moment → Result Passed WalkError → Type 0
+JournalsPass w number drawn before after result = (b : WalkStart) → AtDrawn w b before number drawn
+    → MatchResult result (AtPass w b after number) (IsLeft w b after)
+
 -- from a pass that was drawn to the next one
 abbrev pub GoesFromDrawn : WalkBy → ℕ → Drawn → Moment → Moment → Result Next WalkError → Type 0
 GoesFromDrawn w number drawn before after result = (b : WalkStart) → AtDrawn w b before number drawn

@@ -1,19 +1,30 @@
 -- How placing the pinned pages ends.
-use Rattle.std.specs.Prelude.{◌≡◌, ◌-◌, ℕ, Bool, false, List, map, Option, option_map, ◌++◌}
+use Rattle.std.specs.Prelude.{◌≡◌, ◌≤◌, ◌-◌, ℕ, Bool, false, List, map, Option, option_map, ◌++◌}
 use Rattle.std.specs.List.{range_with_len}
 use Rattle.vt_outside.specs.declared.place.Place.{Place}
+use Rattle.vt_outside.specs.declared.outside.File.{Ghosts as FileMeanings}
 use Rattle.vt_pages.specs.Shape.{Shape}
 use Rattle.vt_pages.specs.Pages.{pages_of}
 use Rattle.vt_tiles.specs.Format.{tile_start, tile_length}
+use Rattle.vt_tiles.specs.StoreViews.{StoreView}
 use Rattle.vt_journal.specs.declared.changes.Change.{Change}
 use Rattle.vt_journal.specs.JournalText.{pinned_change, pinned_changes}
-use Rattle.vt_walk_decisions.specs.Machines.{Setup, MachineState}
+use Rattle.vt_walk_decisions.specs.Machines.{Setup, MachineState, file_state}
+use Rattle.vt_walk.specs.Beginnings.{IsSameFile}
 
 -- a store with these bytes, where they are known, and of this shape and depth is the one for which a machine was made
 pub record IsStoreOf (given : Setup) (known : Option (List ℕ)) (s : Shape) (d : ℕ) : Type 0 where
   pub shape : given.shape ≡ s
   pub depth : given.depth ≡ d
   pub bytes : given.bytes ≡ known
+
+-- what reading from a store keeps: it is the same one, it tells its places where it did, and its count of faults did not fall
+pub record KeepsStore {F : Type 0} (f : FileMeanings F) (before after : StoreView F) : Type 0 where
+  pub same : IsSameFile (file_state f before.file) (file_state f after.file)
+  pub bytes : f.bytes after.file ≡ f.bytes before.file
+  pub shape : after.shape ≡ before.shape
+  pub depth : after.depth ≡ before.depth
+  pub faults : f.faults before.file ≤ f.faults after.file
 
 -- the machine with this journal
 abbrev pub with_changes : List Change → MachineState → MachineState

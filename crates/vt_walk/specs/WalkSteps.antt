@@ -38,12 +38,6 @@ pub record WalkStart : Type 0 where
   pub kept : FileState
   pub first : WalkState
 
--- what a pass began with: what its walk did, and what was put before it
-pub record PassStart : Type 0 where
-  pub start : WalkStart
-  pub held : Option (List ℕ)
-  pub out_faults : ℕ
-
 -- a machine and the recency of its pages are as a run has left them
 pub record IsAtRun (g : WalkGiven) (run : List WalkPass) (m : MachineState) (v : RecencyView) : Type 0 where
   pub is_run : IsWalkRun g.setup run

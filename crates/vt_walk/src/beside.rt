@@ -1,17 +1,19 @@
 //! A picture that is written while the next one is drawn.
 
-ghost use Rattle.std.specs.Prelude.{◌≡◌, ◌+◌, ◌<◌, ◌^◌, OnOk};
+ghost use Rattle.std.specs.Prelude.{ℕ, ◌≡◌, ◌+◌, ◌<◌, ◌^◌, OnOk};
 ghost use Rattle.std.specs.List.{concat};
 ghost use Rattle.std.specs.Thread.{IsSync, IsSend};
 ghost use Rattle.vt_ppm.specs.Picture.{picture_bytes};
 ghost use Rattle.vt_pictures.specs.Names.{picture_name};
+ghost use Rattle.vt_plan.specs.Views.{RecencyView};
 ghost use Rattle.vt_walk_decisions.specs.Jobs.{job_of};
 ghost use Rattle.vt_walk_decisions.specs.Passes.{MayPrepare, IsJobFor, EndsPassRun};
 ghost use Rattle.vt_walk_decisions.specs.Judging.{MayGoOn, IsFollowed};
+ghost use Rattle.vt_walk_decisions.specs.Requests.{ArePartlyReadFor};
 ghost use Rattle.vt_walk.specs.WalkInputs.{IsWalkInput};
 ghost use Rattle.vt_walk.specs.Writing.{WritesFile};
 ghost use Rattle.vt_walk.specs.WalkSteps.{WalkStart};
-ghost use Rattle.vt_walk.specs.Moments.{moment, KeepsWalk};
+ghost use Rattle.vt_walk.specs.Moments.{moment, traces, KeepsTraces, KeepsWalk};
 ghost use Rattle.vt_walk.specs.Goings.{walk_by, AtPass, GoesFromPass, RunsBeside};
 
 use crate::advance::plan_on;
@@ -75,9 +77,7 @@ pub fn draw_beside<
         rt,
         folder,
         machine,
-        recency,
         input,
-        number,
         &passed,
         name.as_str(),
         buffer,
@@ -109,9 +109,7 @@ fn write_beside<
     rt: &Rt,
     folder: &mut D,
     machine: &mut M,
-    recency: &Recency,
     input: &WalkInput<'_>,
-    number: u32,
     passed: &Passed,
     name: &str,
     bytes: &[u8],
@@ -120,23 +118,21 @@ fn write_beside<
 ) -> Result<PassReport, WalkError>
     requires input { IsWalkInput input.now }
     requires idle { M.is_idle machine.old }
-    requires few { number + 1 < 2 ^ 32 }
     requires goes_on { MayGoOn input.now passed.now }
     requires followed { IsFollowed input.now passed.now }
     requires name { name.now ≡ picture_name input.now.names.prefix.now passed.now.picture }
     requires bytes { bytes.now ≡ picture_bytes input.now.depth input.now.path.now.width input.now.path.now.height
         (concat (M.state machine.old).rows) }
-    requires stands { (b : WalkStart) × AtPass (walk_by M.PassMachine input.now) b
-        (moment D.Folder O.Sink folder.old out.old (M.state machine.old) recency.now) number passed.now }
-    ensures ran { RunsBeside (walk_by M.PassMachine input.now) number passed.now
-        (moment D.Folder O.Sink folder.old out.old (M.state machine.old) recency.now)
-        (moment D.Folder O.Sink folder.new out.new (M.state machine.new) recency.now) result }
+    requires stands { (number : ℕ) × (v : RecencyView) × (b : WalkStart) × (number + 1 < 2 ^ 32)
+        × AtPass (walk_by M.PassMachine input.now) b
+        (moment D.Folder O.Sink folder.old out.old (M.state machine.old) v) number passed.now }
+    ensures ran { (number : ℕ) (v : RecencyView) → RunsBeside (walk_by M.PassMachine input.now) number passed.now
+        (moment D.Folder O.Sink folder.old out.old (M.state machine.old) v)
+        (moment D.Folder O.Sink folder.new out.new (M.state machine.new) v) result }
     ensures idle { OnOk result (M.is_idle machine.new) }
-    ensures kept { KeepsWalk (moment D.Folder O.Sink folder.old out.old (M.state machine.old) recency.now)
-        (moment D.Folder O.Sink folder.new out.new (M.state machine.new) recency.now) }
+    ensures kept { KeepsTraces (traces D.Folder O.Sink folder.old out.old (M.state machine.old).files)
+        (traces D.Folder O.Sink folder.new out.new (M.state machine.new).files) }
 {
-    let _ = recency;
-    let _ = number;
     let shot = Shot {
         geometry: input.geometry,
         path: input.path,
@@ -175,6 +171,8 @@ fn run_and_write<Rt: Threads + Wait + Sync, M: PassMachine + Send, D: Folder, G:
     requires job { IsJobFor (M.state machine.old).setup (job_of shot.now batch.now.elements) }
     ensures ran { EndsPassRun M.drawing (M.drawn machine.new) (M.is_idle machine.new) (job_of shot.now batch.now.elements)
         result.0 (M.state machine.old) (M.state machine.new) }
+    ensures read { ArePartlyReadFor shot.now.geometry.now shot.now.depth batch.now.elements (M.state machine.old).files
+        (M.state machine.new).files }
     ensures written { WritesFile D.Folder name.now bytes.now result.1 folder.old folder.new }
 {
     join_mut(

@@ -8,7 +8,7 @@ ghost use Rattle.vt_tiles.specs.StoreViews.{IsStoreIfKnown};
 ghost use Rattle.vt_walk_decisions.specs.Requests.{counts_of};
 ghost use Rattle.vt_walk_decisions.specs.Machines.{files_of};
 ghost use Rattle.vt_walk.specs.Closing.{with_closed, AreFresh};
-ghost use Rattle.vt_walk.specs.Opening.{IsFresh};
+ghost use Rattle.vt_walk.specs.Opening.{IsFresh, KeepsFolder};
 
 use std::alloc::Global;
 use vt_outside::{Folder, OutsideError};
@@ -32,9 +32,7 @@ pub fn open_loaders<D: Folder>(
     ensures fresh { IfOk result (λ stores. AreFresh D.File.File geometry.now depth loaders name.now (D.asked folder.old)
         (bytes_at (D.files folder.old) name.now) stores.elements) }
     ensures failed { IsErrOf result OutsideError.Failed → Rose (D.faults folder.old) (D.faults folder.new) }
-    ensures files { D.files folder.new ≡ D.files folder.old }
-    ensures asked { D.asked folder.new ≡ D.asked folder.old }
-    ensures faults { D.faults folder.old ≤ D.faults folder.new }
+    ensures kept { KeepsFolder D.Folder folder.old folder.new }
 {
     let mut stores = Stores::new(alloc);
     match open_into(folder, name, geometry, depth, loaders, &mut stores) {
@@ -63,9 +61,7 @@ fn open_into<D: Folder>(
         (bytes_at (D.files folder.old) name.now)) stores.new.elements }
     ensures count { OnOk result (length stores.new.elements ≡ loaders) }
     ensures failed { IsErrOf result OutsideError.Failed → Rose (D.faults folder.old) (D.faults folder.new) }
-    ensures files { D.files folder.new ≡ D.files folder.old }
-    ensures asked { D.asked folder.new ≡ D.asked folder.old }
-    ensures faults { D.faults folder.old ≤ D.faults folder.new }
+    ensures kept { KeepsFolder D.Folder folder.old folder.new }
 {
     stores.reserve(loaders as u64)?;
     for _i in 0..loaders {

@@ -10,7 +10,7 @@ ghost use Rattle.vt_journal.specs.Changes.{newest, IsNext};
 ghost use Rattle.vt_walk_decisions.specs.Crews.{last_start};
 ghost use Rattle.vt_walk_decisions.specs.Passes.{with_placed};
 ghost use Rattle.vt_walk.specs.Reads.{AreAskedFor, AreAskedAtMostFor, OnKnown, lost_reads};
-ghost use Rattle.vt_walk.specs.Placing.{IsStoreOf, with_pinned};
+ghost use Rattle.vt_walk.specs.Placing.{IsStoreOf, KeepsStore, with_pinned};
 
 use std::alloc::Global;
 use std::sync::Wait;
@@ -50,9 +50,7 @@ pub fn place_pinned<Rt: Threads + Wait + Sync, M: PassMachine, F: File>(
         store.old.depth pinned old)
         (F.asked store.old.file) (F.asked store.new.file) }
     ensures failed { IsErrOf result OutsideError.Failed → Rose (F.faults store.old.file) (F.faults store.new.file) }
-    ensures faults { F.faults store.old.file ≤ F.faults store.new.file }
-    ensures bytes { F.bytes store.new.file ≡ F.bytes store.old.file }
-    ensures name { F.name store.new.file ≡ F.name store.old.file }
+    ensures kept { KeepsStore F.File store.old store.new }
 {
     let depth = store.depth();
     store.reserve(pinned as u64)?;
@@ -92,12 +90,8 @@ fn place_page<Rt: Threads + Wait + Sync, M: PassMachine, F: File>(
     ensures part { OnErr result ((failed : Bool) × TileAsked store.old.shape store.old.depth page failed
         (F.asked store.old.file) (F.asked store.new.file)) }
     ensures failed { IsErrOf result OutsideError.Failed → Rose (F.faults store.old.file) (F.faults store.new.file) }
-    ensures faults { F.faults store.old.file ≤ F.faults store.new.file }
     ensures spare { F.spare store.old.file ≤ F.spare store.new.file + 1 }
-    ensures bytes { F.bytes store.new.file ≡ F.bytes store.old.file }
-    ensures name { F.name store.new.file ≡ F.name store.old.file }
-    ensures shape { store.new.shape ≡ store.old.shape }
-    ensures depth { store.new.depth ≡ store.old.depth }
+    ensures kept { KeepsStore F.File store.old store.new }
 {
     store.read_tile(page, tile)?;
     machine.place(rt, page, frame, tile)?;

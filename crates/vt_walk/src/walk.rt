@@ -13,9 +13,10 @@ ghost use Rattle.vt_walk.specs.DrawnBy.{IsDrawnBySome};
 ghost use Rattle.vt_walk.specs.WalkSteps.{StandsFirst, LeftByRefusal};
 ghost use Rattle.vt_walk.specs.WalkEffects.{walk_effect, file_of, Walks};
 ghost use Rattle.vt_walk.specs.WalkInputs.{given_of, setup_of_input, IsWalkInput};
-ghost use Rattle.vt_walk.specs.Beginnings.{IsBegun, AreKnown, IsSameFile};
-ghost use Rattle.vt_walk_decisions.specs.Requests.{AreSameFiles, counts_of};
-ghost use Rattle.vt_walk.specs.Closing.{AreFresh, AreOtherNamesAsBefore};
+ghost use Rattle.vt_walk.specs.Beginnings.{IsBegun, AreKnown, IsSameFile, KeepsFiles};
+ghost use Rattle.vt_walk.specs.Moments.{traces, KeepsTraces};
+ghost use Rattle.vt_walk_decisions.specs.Requests.{counts_of};
+ghost use Rattle.vt_walk.specs.Closing.{AreFresh, AreOtherNamesAsBefore, HasClosed};
 
 use crate::files::begin_journal;
 use crate::loaders::{close_stores, open_loaders};
@@ -123,10 +124,9 @@ fn walk_store<
     ensures counted { IfOk result (HasCounts (setup_of_input M.drawing input.now)) }
     ensures few { input.now.settings.frames < input.now.pinned
         → result ≡ Err (WalkError.TooFewFrames input.now.settings.frames input.now.pinned) }
-    ensures opened { AreOpen 1 input.now.names.store.now (D.asked folder.new) (file_of D.File.File store.new) }
-    ensures others { AreOtherNamesAsBefore input.now.names.store.now (D.asked folder.old) (D.asked folder.new) }
-    ensures faults { D.faults folder.old ≤ D.faults folder.new }
-    ensures out_faults { O.faults out.old ≤ O.faults out.new }
+    ensures closed { HasClosed input.now.names.store.now
+        (traces D.Folder O.Sink folder.old out.old (file_of D.File.File store.old))
+        (traces D.Folder O.Sink folder.new out.new (file_of D.File.File store.new)) }
 {
     if has_too_few_frames(input) {
         return Err(WalkError::TooFewFrames {
@@ -180,10 +180,9 @@ fn walk_stores<
         (walk_effect D.Folder O.Sink input.now.names.store.now (file_of D.File.File store.old)
         (file_of D.File.File store.new) folder.old folder.new out.old out.new) result }
     ensures counted { IfOk result (HasCounts (setup_of_input M.drawing input.now)) }
-    ensures opened { AreOpen 1 input.now.names.store.now (D.asked folder.new) (file_of D.File.File store.new) }
-    ensures others { AreOtherNamesAsBefore input.now.names.store.now (D.asked folder.old) (D.asked folder.new) }
-    ensures faults { D.faults folder.old ≤ D.faults folder.new }
-    ensures out_faults { O.faults out.old ≤ O.faults out.new }
+    ensures closed { HasClosed input.now.names.store.now
+        (traces D.Folder O.Sink folder.old out.old (file_of D.File.File store.old))
+        (traces D.Folder O.Sink folder.new out.new (file_of D.File.File store.new)) }
 {
     let frames = input.settings.frames;
     let crew = input.settings.crew;
@@ -239,10 +238,9 @@ fn walk_machine<
         (walk_effect D.Folder O.Sink input.now.names.store.now (file_of D.File.File store.old)
         (file_of D.File.File store.new) folder.old folder.new out.old out.new) result }
     ensures counted { IfOk result (HasCounts (setup_of_input M.drawing input.now)) }
-    ensures opened { AreOpen 1 input.now.names.store.now (D.asked folder.new) (file_of D.File.File store.new) }
-    ensures others { AreOtherNamesAsBefore input.now.names.store.now (D.asked folder.old) (D.asked folder.new) }
-    ensures faults { D.faults folder.old ≤ D.faults folder.new }
-    ensures out_faults { O.faults out.old ≤ O.faults out.new }
+    ensures closed { HasClosed input.now.names.store.now
+        (traces D.Folder O.Sink folder.old out.old (file_of D.File.File store.old))
+        (traces D.Folder O.Sink folder.new out.new (file_of D.File.File store.new)) }
 {
     let walked = walk_all(rt, alloc, folder, store, &mut machine, input, out, gate);
     close_stores(folder, machine.end(rt));
@@ -281,11 +279,9 @@ fn walk_all<
         (file_state D.File.File store.new.file ∷ (M.state machine.new).files) folder.old folder.new out.old out.new)
         result }
     ensures counted { IfOk result (HasCounts (setup_of_input M.drawing input.now)) }
-    ensures same { AreSameFiles (M.state machine.old).files (M.state machine.new).files }
     ensures store { IsSameFile (file_state D.File.File store.old.file) (file_state D.File.File store.new.file) }
-    ensures asked { D.asked folder.new ≡ D.asked folder.old }
-    ensures faults { D.faults folder.old ≤ D.faults folder.new }
-    ensures out_faults { O.faults out.old ≤ O.faults out.new }
+    ensures kept { KeepsTraces (traces D.Folder O.Sink folder.old out.old (M.state machine.old).files)
+        (traces D.Folder O.Sink folder.new out.new (M.state machine.new).files) }
 {
     let mut recency = begin(rt, alloc, folder, store, machine, input)?;
     let mut buffer = Vec::new(alloc);
@@ -332,10 +328,8 @@ fn begin<Rt: Threads + Wait + Sync, M: PassMachine, D: Folder>(
         MatchResult result (λ recency. StandsFirst drawn given first last (M.state machine.new) recency)
         (LeftByRefusal drawn given first last) }
     ensures idle { OnOk result (M.is_idle machine.new) }
-    ensures files { (M.state machine.new).files ≡ (M.state machine.old).files }
-    ensures store { IsSameFile (file_state D.File.File store.old.file) (file_state D.File.File store.new.file) }
-    ensures asked { D.asked folder.new ≡ D.asked folder.old }
-    ensures faults { D.faults folder.old ≤ D.faults folder.new }
+    ensures kept { KeepsFiles D.Folder folder.old folder.new (file_state D.File.File store.old.file)
+        (file_state D.File.File store.new.file) (M.state machine.old).files (M.state machine.new).files }
 {
     place_pinned(rt, alloc, machine, store, input.geometry, input.pinned)?;
     let recency = Recency::new(alloc, input.geometry, input.settings.frames, input.pinned)?;

@@ -1,13 +1,11 @@
 //! Pass after pass.
 
-ghost use Rattle.std.specs.Prelude.{◌≡◌, ◌+◌, ◌<◌, ◌≤◌, ◌^◌, ◌∷◌, MatchResult, OnOk, IfOk};
-ghost use Rattle.vt_walk.specs.States.{walk_state};
-ghost use Rattle.vt_walk.specs.WalkInputs.{given_of, setup_of_input, IsWalkInput};
-ghost use Rattle.vt_walk.specs.DrawnBy.{IsDrawnBySome};
-ghost use Rattle.vt_walk.specs.WalkSteps.{WalkStart, PassStart, StandsAfter, LeftByRefusal};
-ghost use Rattle.vt_walk.specs.Following.{StandsDrawn};
-ghost use Rattle.vt_walk.specs.Moments.{moment, KeepsWalk};
-ghost use Rattle.vt_walk.specs.Goings.{walk_by, AtFirst, AtDrawn, AtPass, WalksOn, TakesSteps, GoesFromDrawn, GoesFromPass, EndsPass};
+ghost use Rattle.std.specs.Prelude.{ℕ, ◌+◌, ◌<◌, ◌≤◌, ◌^◌, OnOk, IfOk};
+ghost use Rattle.vt_plan.specs.Views.{RecencyView};
+ghost use Rattle.vt_walk.specs.WalkInputs.{setup_of_input, IsWalkInput};
+ghost use Rattle.vt_walk.specs.WalkSteps.{WalkStart};
+ghost use Rattle.vt_walk.specs.Moments.{Moment, moment, at_folder, traces, KeepsTraces, KeepsWalk};
+ghost use Rattle.vt_walk.specs.Goings.{walk_by, AtFirst, AtDrawn, AtPass, WalksOn, TakesSteps, JournalsPass, GoesFromDrawn, GoesFromPass, EndsPass};
 ghost use Rattle.vt_walk.specs.Counts.{HasCounts};
 ghost use Rattle.vt_walk_decisions.specs.Judging.{MayGoOn};
 
@@ -147,7 +145,7 @@ fn take_step<Rt: Threads + Wait + Sync, M: PassMachine + Send, D: Folder, O: Sin
     ensures kept { KeepsWalk (moment D.Folder O.Sink folder.old out.old (M.state machine.old) recency.old)
         (moment D.Folder O.Sink folder.new out.new (M.state machine.new) recency.new) }
 {
-    let passed = journal_drawn(buffer, folder, machine, recency, input, number, drawn)?;
+    let passed = journal_drawn::<M, D>(buffer, folder, input, drawn)?;
     judge(input, &passed)?;
     go_on(
         rt, alloc, folder, machine, recency, input, number, passed, buffer, out, gate,
@@ -158,32 +156,16 @@ fn take_step<Rt: Threads + Wait + Sync, M: PassMachine + Send, D: Folder, O: Sin
 fn journal_drawn<M: PassMachine, D: Folder>(
     buffer: &mut Vec<u8>,
     folder: &mut D,
-    machine: &M,
-    recency: &Recency,
     input: &WalkInput<'_>,
-    number: u32,
     drawn: Drawn,
 ) -> Result<Passed, WalkError>
     requires input { IsWalkInput input.now }
-    requires stands { (b : PassStart) × StandsDrawn (IsDrawnBySome M.PassMachine)
-        (given_of M.drawing input.now b.start.known) number drawn b.start.first
-        (λ files. walk_state D.Folder input.now.names.store.now folder.old (b.start.kept ∷ files) b.held b.out_faults)
-        (M.state machine.now) recency.now }
-    ensures journaled { (b : PassStart) → let some = IsDrawnBySome M.PassMachine in
-        let given = given_of M.drawing input.now b.start.known in
-        let name = input.now.names.store.now in
-        let after = walk_state D.Folder name folder.new (b.start.kept ∷ (M.state machine.now).files) b.held
-        b.out_faults in
-        StandsDrawn some given number drawn b.start.first (λ files. walk_state D.Folder name folder.old
-        (b.start.kept ∷ files) b.held b.out_faults) (M.state machine.now) recency.now
-        → MatchResult result (λ passed. StandsAfter some given number passed b.start.first after (M.state machine.now)
-        recency.now) (LeftByRefusal some given b.start.first after) }
-    ensures asked { D.asked folder.new ≡ D.asked folder.old }
-    ensures faults { D.faults folder.old ≤ D.faults folder.new }
+    requires stands { (t : Moment) × (number : ℕ) × (b : WalkStart) × (number < 2 ^ 32)
+        × AtDrawn (walk_by M.PassMachine input.now) b (at_folder D.Folder folder.old t) number drawn }
+    ensures journaled { (t : Moment) (number : ℕ) → JournalsPass (walk_by M.PassMachine input.now) number drawn
+        (at_folder D.Folder folder.old t) (at_folder D.Folder folder.new t) result }
+    ensures kept { (t : Moment) → KeepsWalk (at_folder D.Folder folder.old t) (at_folder D.Folder folder.new t) }
 {
-    let _ = machine;
-    let _ = recency;
-    let _ = number;
     journal_pass(
         buffer,
         folder,
@@ -226,9 +208,7 @@ fn go_on<Rt: Threads + Wait + Sync, M: PassMachine + Send, D: Folder, O: Sink, G
             rt, alloc, folder, machine, recency, input, number, passed, buffer, out, gate,
         );
     }
-    let step = end_step(
-        buffer, alloc, folder, machine, recency, input, number, passed, out,
-    )?;
+    let step = end_step(buffer, alloc, folder, machine, input, passed, out)?;
     let next = draw_next(rt, alloc, machine, recency, input, number + 1, step, gate)?;
     Ok(next)
 }
@@ -239,24 +219,21 @@ fn end_step<M: PassMachine, D: Folder, O: Sink>(
     alloc: Global,
     folder: &mut D,
     machine: &M,
-    recency: &Recency,
     input: &WalkInput<'_>,
-    number: u32,
     passed: Passed,
     out: &mut O,
 ) -> Result<WalkStep, WalkError>
     requires input { IsWalkInput input.now }
     requires idle { M.is_idle machine.now }
     requires goes_on { MayGoOn input.now passed }
-    requires stands { (b : WalkStart) × AtPass (walk_by M.PassMachine input.now) b
-        (moment D.Folder O.Sink folder.old out.old (M.state machine.now) recency.now) number passed }
-    ensures ended { EndsPass (walk_by M.PassMachine input.now) number passed
-        (moment D.Folder O.Sink folder.old out.old (M.state machine.now) recency.now)
-        (moment D.Folder O.Sink folder.new out.new (M.state machine.now) recency.now) result }
-    ensures kept { KeepsWalk (moment D.Folder O.Sink folder.old out.old (M.state machine.now) recency.now)
-        (moment D.Folder O.Sink folder.new out.new (M.state machine.now) recency.now) }
+    requires stands { (number : ℕ) × (v : RecencyView) × (b : WalkStart) × AtPass (walk_by M.PassMachine input.now) b
+        (moment D.Folder O.Sink folder.old out.old (M.state machine.now) v) number passed }
+    ensures ended { (number : ℕ) (v : RecencyView) → EndsPass (walk_by M.PassMachine input.now) number passed
+        (moment D.Folder O.Sink folder.old out.old (M.state machine.now) v)
+        (moment D.Folder O.Sink folder.new out.new (M.state machine.now) v) result }
+    ensures kept { KeepsTraces (traces D.Folder O.Sink folder.old out.old (M.state machine.now).files)
+        (traces D.Folder O.Sink folder.new out.new (M.state machine.now).files) }
 {
-    let _ = recency;
     let Passed {
         picture,
         loads_nothing,

@@ -1,4 +1,4 @@
-use Rattle.std.proofs.Common.{◌+◌, ◌∷◌, ◌∙◌, List, length, ap, arith, refl, sym, subst}
+use Rattle.std.proofs.Common.{◌+◌, ◌∷◌, ◌∙◌, List, length, ap, arith, sym, subst}
 use Rattle.std.proofs.lemmas.Result.{err_from_is_err_and}
 use Rattle.vt_journal.specs.declared.changes.Change.{Change}
 use Rattle.vt_walk_decisions.specs.Reported.{next_step}
@@ -8,6 +8,7 @@ use Rattle.vt_walk.specs.WalkInputs.{given_of}
 use Rattle.vt_walk.specs.WalkSteps.{LeftByRefusal}
 use Rattle.vt_walk.specs.DrawnBy.{IsDrawnBySome}
 use Rattle.vt_walk.proofs.Besides.{ran_as, picture_rows, full_rows, left_after, plan_broke, is_drawn}
+use Rattle.vt_walk.proofs.Keeping.{kept_here}
 use Rattle.vt_walk.proofs.beside.draw_beside.Goals as goal
 
 pub make_picture-requires-clause-few : goal.make_picture-requires-clause-few
@@ -17,7 +18,9 @@ make_picture-requires-clause-few g c κs within =
 pub make_picture-requires-clause-count : goal.make_picture-requires-clause-count
 make_picture-requires-clause-count g c κs within =
     let b = c.requires.stands.0 in
-    picture_rows g.M.PassMachine.drawing (IsDrawnBySome g.M.PassMachine) (g.met.M.PassMachine g.world.𝓛 g.world.𝓜 g.world.𝓡 ((λ s x. x), (λ x. x), (λ x. x), λ x. x)).shows_whole c.args.input.now b.known c.args.number c.args.passed b.first
+    picture_rows g.M.PassMachine.drawing (IsDrawnBySome g.M.PassMachine)
+    (g.met.M.PassMachine g.world.𝓛 g.world.𝓜 g.world.𝓡 ((λ s x. x), (λ x. x), (λ x. x), λ x. x)).shows_whole
+    c.args.input.now b.known c.args.number c.args.passed b.first
     (g.M.PassMachine.state c.args.machine.now) c.args.recency.now c.requires.input
     (walk_state g.D.Folder c.args.input.now.names.store.now c.args.folder.now (b.kept ∷ (g.M.PassMachine.state c.args.machine.now).files)
     (g.O.Sink.held c.args.out.now) (g.O.Sink.faults c.args.out.now)) c.requires.stands.1
@@ -25,7 +28,9 @@ make_picture-requires-clause-count g c κs within =
 pub make_picture-requires-clause-full : goal.make_picture-requires-clause-full
 make_picture-requires-clause-full g c κs within =
     let b = c.requires.stands.0 in
-    full_rows g.M.PassMachine.drawing (IsDrawnBySome g.M.PassMachine) (g.met.M.PassMachine g.world.𝓛 g.world.𝓜 g.world.𝓡 ((λ s x. x), (λ x. x), (λ x. x), λ x. x)).shows_whole c.args.input.now b.known c.args.number c.args.passed b.first
+    full_rows g.M.PassMachine.drawing (IsDrawnBySome g.M.PassMachine)
+    (g.met.M.PassMachine g.world.𝓛 g.world.𝓜 g.world.𝓡 ((λ s x. x), (λ x. x), (λ x. x), λ x. x)).shows_whole
+    c.args.input.now b.known c.args.number c.args.passed b.first
     (g.M.PassMachine.state c.args.machine.now) c.args.recency.now c.requires.input
     (walk_state g.D.Folder c.args.input.now.names.store.now c.args.folder.now (b.kept ∷ (g.M.PassMachine.state c.args.machine.now).files)
     (g.O.Sink.held c.args.out.now) (g.O.Sink.faults c.args.out.now)) c.requires.stands.1
@@ -36,7 +41,8 @@ plan_on-requires-clause-ran g c κs within =
     let s = ran_as (IsDrawnBySome g.M.PassMachine) (given_of g.M.PassMachine.drawing c.args.input.now b.known) (c.args.number + 1) (next_step c.args.passed) c.step_after-step.result
     (length (g.M.PassMachine.state c.args.machine.now).journal) c.version-start.result c.in_ok-report.report b.first
     (λ files. state_by g.D.Folder g.O.Sink c.args.input.now.names.store.now c.write_beside.new.folder c.write_beside.new.out (b.kept ∷ files)) (g.M.PassMachine.state c.write_beside.new.machine) c.args.recency.now
-    c.step_after-step.ensures (c.version-start.ensures.version ∙ ap (λ (x : List Change). length x) c.journal.ensures) (c.in_ok-report.ensures.ran b c.requires.stands.1) in (
+    c.step_after-step.ensures (c.version-start.ensures.version ∙ ap (λ (x : List Change). length x) c.journal.ensures)
+    (c.in_ok-report.ensures.ran c.args.number c.args.recency.now b c.requires.stands.1) in (
       record { known = b.known; run = s.stands.run; machine = s.before },
       s.has_run,
     )
@@ -44,7 +50,9 @@ plan_on-requires-clause-ran g c κs within =
 pub returns-in_err-name-clause-taken : goal.returns-in_err-name-clause-taken
 returns-in_err-name-clause-taken g c =
     let p = err_from_is_err_and c.from_residual.result c.from_residual.ensures.1 in
-    λ b at. rw p.1 (left_after g.M.PassMachine.drawing (IsDrawnBySome g.M.PassMachine) (g.met.M.PassMachine g.world.𝓛 g.world.𝓜 g.world.𝓡 ((λ s x. x), (λ x. x), (λ x. x), λ x. x)).shows_whole c.args.input.now b.known c.args.number c.args.passed b.first
+    λ b at. rw p.1 (left_after g.M.PassMachine.drawing (IsDrawnBySome g.M.PassMachine)
+    (g.met.M.PassMachine g.world.𝓛 g.world.𝓜 g.world.𝓡 ((λ s x. x), (λ x. x), (λ x. x), λ x. x)).shows_whole
+    c.args.input.now b.known c.args.number c.args.passed b.first
     (g.M.PassMachine.state c.args.machine.now) c.args.recency.now c.requires.input
     (walk_state g.D.Folder c.args.input.now.names.store.now c.args.folder.now (b.kept ∷ (g.M.PassMachine.state c.args.machine.now).files)
     (g.O.Sink.held c.args.out.now) (g.O.Sink.faults c.args.out.now)) at p.0 p.2)
@@ -54,7 +62,8 @@ returns-in_err-report-clause-taken g c =
     let p = err_from_is_err_and c.from_residual-in_err-report.result c.from_residual-in_err-report.ensures.1 in
     λ b at. rw p.1 (subst (LeftByRefusal (IsDrawnBySome g.M.PassMachine) (given_of g.M.PassMachine.drawing c.args.input.now b.known) b.first
     (walk_state g.D.Folder c.args.input.now.names.store.now c.write_beside.new.folder (b.kept ∷ (g.M.PassMachine.state c.write_beside.new.machine).files)
-    (g.O.Sink.held c.write_beside.new.out) (g.O.Sink.faults c.write_beside.new.out))) (sym p.2) (c.in_err-report.ensures.ran b at))
+    (g.O.Sink.held c.write_beside.new.out) (g.O.Sink.faults c.write_beside.new.out))) (sym p.2)
+    (c.in_err-report.ensures.ran c.args.number c.args.recency.now b at))
 
 pub returns-in_err-drawn-clause-taken : goal.returns-in_err-drawn-clause-taken
 returns-in_err-drawn-clause-taken g c =
@@ -65,14 +74,16 @@ returns-in_err-drawn-clause-taken g c =
     c.args.recency.now c.plan_on.new.recency (ran_as (IsDrawnBySome g.M.PassMachine) (given_of g.M.PassMachine.drawing c.args.input.now b.known) (c.args.number + 1) (next_step c.args.passed) c.step_after-step.result
     (length (g.M.PassMachine.state c.args.machine.now).journal) c.version-start.result c.in_ok-report.report b.first
     (λ files. state_by g.D.Folder g.O.Sink c.args.input.now.names.store.now c.write_beside.new.folder c.write_beside.new.out (b.kept ∷ files)) (g.M.PassMachine.state c.write_beside.new.machine) c.args.recency.now
-    c.step_after-step.ensures (c.version-start.ensures.version ∙ ap (λ (x : List Change). length x) c.journal.ensures) (c.in_ok-report.ensures.ran b at)) p.0 p.2)
+    c.step_after-step.ensures (c.version-start.ensures.version ∙ ap (λ (x : List Change). length x) c.journal.ensures)
+    (c.in_ok-report.ensures.ran c.args.number c.args.recency.now b at)) p.0 p.2)
 
 pub returns-clause-taken : goal.returns-clause-taken
 returns-clause-taken g c = λ b at.
     let s = ran_as (IsDrawnBySome g.M.PassMachine) (given_of g.M.PassMachine.drawing c.args.input.now b.known) (c.args.number + 1) (next_step c.args.passed) c.step_after-step.result
     (length (g.M.PassMachine.state c.args.machine.now).journal) c.version-start.result c.in_ok-report.report b.first
     (λ files. state_by g.D.Folder g.O.Sink c.args.input.now.names.store.now c.write_beside.new.folder c.write_beside.new.out (b.kept ∷ files)) (g.M.PassMachine.state c.write_beside.new.machine) c.args.recency.now
-    c.step_after-step.ensures (c.version-start.ensures.version ∙ ap (λ (x : List Change). length x) c.journal.ensures) (c.in_ok-report.ensures.ran b at) in
+    c.step_after-step.ensures (c.version-start.ensures.version ∙ ap (λ (x : List Change). length x) c.journal.ensures)
+    (c.in_ok-report.ensures.ran c.args.number c.args.recency.now b at) in
     is_drawn g.M.PassMachine.drawing (IsDrawnBySome g.M.PassMachine) c.args.input.now b.known
     g.D.Folder c.args.input.now.names.store.now b.kept (g.O.Sink.held c.write_beside.new.out) (g.O.Sink.faults c.write_beside.new.out)
     c.write_beside.new.folder (c.args.number + 1) c.version-start.result c.step_after-step.result c.in_ok-report.report b.first (g.M.PassMachine.state c.write_beside.new.machine)
@@ -80,28 +91,17 @@ returns-clause-taken g c = λ b at.
     (c.in_ok-drawn.ensures (record { known = b.known; run = s.stands.run; machine = s.before }) s.has_run)
 
 pub returns-in_err-name-clause-kept : goal.returns-in_err-name-clause-kept
-returns-in_err-name-clause-kept g c = record {
-  same = record { names = refl; all_known = refl };
-  asked = refl;
-  faults = omega arith;
-  out_faults = omega arith;
-}
+returns-in_err-name-clause-kept g c = kept_here _
 
 pub returns-in_err-report-clause-kept : goal.returns-in_err-report-clause-kept
 returns-in_err-report-clause-kept g c = c.write_beside.ensures.kept
 
 pub returns-in_err-drawn-clause-kept : goal.returns-in_err-drawn-clause-kept
-returns-in_err-drawn-clause-kept g c = record {
-  same = c.write_beside.ensures.kept.same;
-  asked = c.write_beside.ensures.kept.asked;
-  faults = c.write_beside.ensures.kept.faults;
-  out_faults = c.write_beside.ensures.kept.out_faults;
-}
+returns-in_err-drawn-clause-kept g c = c.write_beside.ensures.kept
 
 pub returns-clause-kept : goal.returns-clause-kept
-returns-clause-kept g c = record {
-  same = c.write_beside.ensures.kept.same;
-  asked = c.write_beside.ensures.kept.asked;
-  faults = c.write_beside.ensures.kept.faults;
-  out_faults = c.write_beside.ensures.kept.out_faults;
-}
+returns-clause-kept g c = c.write_beside.ensures.kept
+
+pub write_beside-requires-clause-stands : goal.write_beside-requires-clause-stands
+write_beside-requires-clause-stands g c κs within =
+    (c.args.number, c.args.recency.now, c.requires.stands.0, c.requires.few, c.requires.stands.1)

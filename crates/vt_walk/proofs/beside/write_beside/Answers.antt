@@ -8,71 +8,66 @@ use Rattle.vt_walk.specs.States.{walk_state}
 use Rattle.vt_walk.specs.WalkInputs.{input_scene}
 use Rattle.vt_walk.specs.DrawnBy.{IsDrawnBySome}
 use Rattle.vt_walk.proofs.Advancing.{ran_anyhow, drawn_by_some}
-use Rattle.vt_walk.proofs.Besides.{may_prepare_next, is_next_job, next_read, picture_left, line_left, pass_left, pass_ran}
+use Rattle.vt_walk.proofs.Besides.{may_prepare_next, is_next_job, picture_left, line_left, pass_left, pass_ran}
 use Rattle.vt_walk.proofs.beside.write_beside.Goals as goal
 
 pub run_and_write-ran-requires-clause-may : goal.run_and_write-ran-requires-clause-may
 run_and_write-ran-requires-clause-may g c κs within =
-    let b = c.requires.stands.0 in
-    may_prepare_next g.M.PassMachine.drawing (IsDrawnBySome g.M.PassMachine) (g.met.M.PassMachine g.world.𝓛 g.world.𝓜 g.world.𝓡 ((λ s x. x), (λ x. x), (λ x. x), λ x. x)).shows_whole c.args.input.now b.known c.args.number c.args.passed.now b.first
-    (g.M.PassMachine.state c.args.machine.now) c.args.recency.now c.requires.input c.requires.goes_on c.requires.followed
+    let b = c.requires.stands.2 in
+    may_prepare_next g.M.PassMachine.drawing (IsDrawnBySome g.M.PassMachine)
+    (g.met.M.PassMachine g.world.𝓛 g.world.𝓜 g.world.𝓡 ((λ s x. x), (λ x. x), (λ x. x), λ x. x)).shows_whole
+    c.args.input.now b.known c.requires.stands.0 c.args.passed.now b.first
+    (g.M.PassMachine.state c.args.machine.now) c.requires.stands.1 c.requires.input c.requires.goes_on c.requires.followed
     (walk_state g.D.Folder c.args.input.now.names.store.now c.args.folder.now (b.kept ∷ (g.M.PassMachine.state c.args.machine.now).files)
-    (g.O.Sink.held c.args.out.now) (g.O.Sink.faults c.args.out.now)) c.requires.stands.1 c.requires.few
+    (g.O.Sink.held c.args.out.now) (g.O.Sink.faults c.args.out.now)) c.requires.stands.4 c.requires.stands.3
 
 pub run_and_write-ran-requires-clause-job : goal.run_and_write-ran-requires-clause-job
 run_and_write-ran-requires-clause-job g c κs within =
-    let b = c.requires.stands.0 in
-    is_next_job g.M.PassMachine.drawing (IsDrawnBySome g.M.PassMachine) (g.met.M.PassMachine g.world.𝓛 g.world.𝓜 g.world.𝓡 ((λ s x. x), (λ x. x), (λ x. x), λ x. x)).shows_whole c.args.input.now b.known c.args.number c.args.passed.now b.first
-    (g.M.PassMachine.state c.args.machine.now) c.args.recency.now c.requires.input c.requires.goes_on c.requires.followed
+    let b = c.requires.stands.2 in
+    is_next_job g.M.PassMachine.drawing (IsDrawnBySome g.M.PassMachine)
+    (g.met.M.PassMachine g.world.𝓛 g.world.𝓜 g.world.𝓡 ((λ s x. x), (λ x. x), (λ x. x), λ x. x)).shows_whole
+    c.args.input.now b.known c.requires.stands.0 c.args.passed.now b.first
+    (g.M.PassMachine.state c.args.machine.now) c.requires.stands.1 c.requires.input c.requires.goes_on c.requires.followed
     (walk_state g.D.Folder c.args.input.now.names.store.now c.args.folder.now (b.kept ∷ (g.M.PassMachine.state c.args.machine.now).files)
-    (g.O.Sink.held c.args.out.now) (g.O.Sink.faults c.args.out.now)) c.requires.stands.1
+    (g.O.Sink.held c.args.out.now) (g.O.Sink.faults c.args.out.now)) c.requires.stands.4
 
 pub returns-in_err-written-clause-ran : goal.returns-in_err-written-clause-ran
 returns-in_err-written-clause-ran g c =
     let p = err_from_is_err_and c.from_residual.result c.from_residual.ensures.1 in
-    λ b at. rw p.1 (picture_left g.M.PassMachine.drawing (IsDrawnBySome g.M.PassMachine) (g.met.M.PassMachine g.world.𝓛 g.world.𝓜 g.world.𝓡 ((λ s x. x), (λ x. x), (λ x. x), λ x. x)).shows_whole c.args.input.now b.known c.args.number c.args.passed.now b.first
-    (g.M.PassMachine.state c.args.machine.now) c.args.recency.now c.requires.input c.requires.goes_on c.requires.followed
+    λ number v b at. rw p.1 (picture_left g.M.PassMachine.drawing (IsDrawnBySome g.M.PassMachine)
+    (g.met.M.PassMachine g.world.𝓛 g.world.𝓜 g.world.𝓡 ((λ s x. x), (λ x. x), (λ x. x), λ x. x)).shows_whole
+    c.args.input.now b.known number c.args.passed.now b.first
+    (g.M.PassMachine.state c.args.machine.now) v c.requires.input c.requires.goes_on c.requires.followed
     g.D.Folder c.args.input.now.names.store.now b.kept (g.O.Sink.held c.args.out.now) (g.O.Sink.faults c.args.out.now) c.args.folder.now
     c.run_and_write-ran.new.folder c.args.name.now c.args.bytes.now c.run_and_write-ran.result.1 (g.M.PassMachine.state c.run_and_write-ran.new.machine)
     c.requires.name c.requires.bytes c.run_and_write-ran.ensures.written
-    (next_read g.M.PassMachine.drawing (IsDrawnBySome g.M.PassMachine) (g.met.M.PassMachine g.world.𝓛 g.world.𝓜 g.world.𝓡 ((λ s x. x), (λ x. x), (λ x. x), λ x. x)).shows_whole c.args.input.now b.known c.args.number c.args.passed.now b.first
-    (g.M.PassMachine.state c.args.machine.now) c.args.recency.now c.requires.input c.requires.goes_on c.requires.followed
-    (walk_state g.D.Folder c.args.input.now.names.store.now c.args.folder.now (b.kept ∷ (g.M.PassMachine.state c.args.machine.now).files)
-    (g.O.Sink.held c.args.out.now) (g.O.Sink.faults c.args.out.now)) at
-    (g.M.PassMachine.drawn c.run_and_write-ran.new.machine) (g.M.PassMachine.is_idle c.run_and_write-ran.new.machine) (g.M.PassMachine.state c.run_and_write-ran.new.machine) c.run_and_write-ran.result.0
-    c.run_and_write-ran.ensures.ran) at _ p.0 c.in_err-written.was p.2)
+    c.run_and_write-ran.ensures.read at _ p.0 c.in_err-written.was p.2)
 
 pub returns-in_err-put_picture_line-clause-ran : goal.returns-in_err-put_picture_line-clause-ran
 returns-in_err-put_picture_line-clause-ran g c =
     let p = err_from_is_err_and c.from_residual-in_err-put_picture_line.result c.from_residual-in_err-put_picture_line.ensures.1 in
-    λ b at. rw p.1 (line_left g.M.PassMachine.drawing (IsDrawnBySome g.M.PassMachine) (g.met.M.PassMachine g.world.𝓛 g.world.𝓜 g.world.𝓡 ((λ s x. x), (λ x. x), (λ x. x), λ x. x)).shows_whole c.args.input.now b.known c.args.number c.args.passed.now b.first
-    (g.M.PassMachine.state c.args.machine.now) c.args.recency.now c.requires.input c.requires.goes_on c.requires.followed
+    λ number v b at. rw p.1 (line_left g.M.PassMachine.drawing (IsDrawnBySome g.M.PassMachine)
+    (g.met.M.PassMachine g.world.𝓛 g.world.𝓜 g.world.𝓡 ((λ s x. x), (λ x. x), (λ x. x), λ x. x)).shows_whole
+    c.args.input.now b.known number c.args.passed.now b.first
+    (g.M.PassMachine.state c.args.machine.now) v c.requires.input c.requires.goes_on c.requires.followed
     g.D.Folder c.args.input.now.names.store.now b.kept (g.O.Sink.held c.args.out.now) (g.O.Sink.faults c.args.out.now) c.args.folder.now
     c.run_and_write-ran.new.folder c.args.name.now c.args.bytes.now c.run_and_write-ran.result.1 (g.M.PassMachine.state c.run_and_write-ran.new.machine)
     c.requires.name c.requires.bytes c.run_and_write-ran.ensures.written
-    (next_read g.M.PassMachine.drawing (IsDrawnBySome g.M.PassMachine) (g.met.M.PassMachine g.world.𝓛 g.world.𝓜 g.world.𝓡 ((λ s x. x), (λ x. x), (λ x. x), λ x. x)).shows_whole c.args.input.now b.known c.args.number c.args.passed.now b.first
-    (g.M.PassMachine.state c.args.machine.now) c.args.recency.now c.requires.input c.requires.goes_on c.requires.followed
-    (walk_state g.D.Folder c.args.input.now.names.store.now c.args.folder.now (b.kept ∷ (g.M.PassMachine.state c.args.machine.now).files)
-    (g.O.Sink.held c.args.out.now) (g.O.Sink.faults c.args.out.now)) at
-    (g.M.PassMachine.drawn c.run_and_write-ran.new.machine) (g.M.PassMachine.is_idle c.run_and_write-ran.new.machine) (g.M.PassMachine.state c.run_and_write-ran.new.machine) c.run_and_write-ran.result.0
-    c.run_and_write-ran.ensures.ran) at _ c.in_ok-written.was (g.O.Sink.held c.put_picture_line.new.out) (g.O.Sink.faults c.put_picture_line.new.out)
+    c.run_and_write-ran.ensures.read at _ c.in_ok-written.was (g.O.Sink.held c.put_picture_line.new.out) (g.O.Sink.faults c.put_picture_line.new.out)
     _ p.0 c.in_err-put_picture_line.ensures.part c.in_err-put_picture_line.ensures.faults
     (λ is. c.in_err-put_picture_line.ensures.failed (ap Err is)) p.2)
 
 pub returns-in_err-report-clause-ran : goal.returns-in_err-report-clause-ran
 returns-in_err-report-clause-ran g c =
     let p = err_from_is_err_and c.from_residual-in_err-report.result c.from_residual-in_err-report.ensures.1 in
-    λ b at. rw p.1 (pass_left g.M.PassMachine.drawing (IsDrawnBySome g.M.PassMachine) (g.met.M.PassMachine g.world.𝓛 g.world.𝓜 g.world.𝓡 ((λ s x. x), (λ x. x), (λ x. x), λ x. x)).shows_whole c.args.input.now b.known c.args.number c.args.passed.now b.first
-    (g.M.PassMachine.state c.args.machine.now) c.args.recency.now c.requires.input c.requires.goes_on c.requires.followed
+    λ number v b at. rw p.1 (pass_left g.M.PassMachine.drawing (IsDrawnBySome g.M.PassMachine)
+    (g.met.M.PassMachine g.world.𝓛 g.world.𝓜 g.world.𝓡 ((λ s x. x), (λ x. x), (λ x. x), λ x. x)).shows_whole
+    c.args.input.now b.known number c.args.passed.now b.first
+    (g.M.PassMachine.state c.args.machine.now) v c.requires.input c.requires.goes_on c.requires.followed
     g.D.Folder c.args.input.now.names.store.now b.kept (g.O.Sink.held c.args.out.now) (g.O.Sink.faults c.args.out.now) c.args.folder.now
     c.run_and_write-ran.new.folder c.args.name.now c.args.bytes.now c.run_and_write-ran.result.1 (g.M.PassMachine.state c.run_and_write-ran.new.machine)
     c.requires.name c.requires.bytes c.run_and_write-ran.ensures.written
-    (next_read g.M.PassMachine.drawing (IsDrawnBySome g.M.PassMachine) (g.met.M.PassMachine g.world.𝓛 g.world.𝓜 g.world.𝓡 ((λ s x. x), (λ x. x), (λ x. x), λ x. x)).shows_whole c.args.input.now b.known c.args.number c.args.passed.now b.first
-    (g.M.PassMachine.state c.args.machine.now) c.args.recency.now c.requires.input c.requires.goes_on c.requires.followed
-    (walk_state g.D.Folder c.args.input.now.names.store.now c.args.folder.now (b.kept ∷ (g.M.PassMachine.state c.args.machine.now).files)
-    (g.O.Sink.held c.args.out.now) (g.O.Sink.faults c.args.out.now)) at
-    (g.M.PassMachine.drawn c.run_and_write-ran.new.machine) (g.M.PassMachine.is_idle c.run_and_write-ran.new.machine) (g.M.PassMachine.state c.run_and_write-ran.new.machine) c.run_and_write-ran.result.0
-    c.run_and_write-ran.ensures.ran) at _ c.in_ok-written.was (g.O.Sink.held c.put_picture_line.new.out) (g.O.Sink.faults c.put_picture_line.new.out)
+    c.run_and_write-ran.ensures.read at _ c.in_ok-written.was (g.O.Sink.held c.put_picture_line.new.out) (g.O.Sink.faults c.put_picture_line.new.out)
     c.in_ok-put_picture_line.ensures.whole c.in_ok-put_picture_line.ensures.faults p.0 p.2)
 
 pub returns-clause-ran : goal.returns-clause-ran
@@ -84,17 +79,14 @@ returns-clause-ran g c =
     (g.M.PassMachine.is_idle c.run_and_write-ran.new.machine)
     (record { scene = input_scene c.args.input.now; picture = c.args.passed.now.picture + 1; batch = c.args.passed.now.next_plan.plan.elements })
     r (g.M.PassMachine.state c.args.machine.now) (g.M.PassMachine.state c.run_and_write-ran.new.machine)) c.in_ok-report.was c.run_and_write-ran.ensures.ran in
-    λ b at. pass_ran g.M.PassMachine.drawing (IsDrawnBySome g.M.PassMachine) (g.met.M.PassMachine g.world.𝓛 g.world.𝓜 g.world.𝓡 ((λ s x. x), (λ x. x), (λ x. x), λ x. x)).shows_whole c.args.input.now b.known c.args.number c.args.passed.now b.first
-    (g.M.PassMachine.state c.args.machine.now) c.args.recency.now c.requires.input c.requires.goes_on c.requires.followed
+    λ number v b at. pass_ran g.M.PassMachine.drawing (IsDrawnBySome g.M.PassMachine)
+    (g.met.M.PassMachine g.world.𝓛 g.world.𝓜 g.world.𝓡 ((λ s x. x), (λ x. x), (λ x. x), λ x. x)).shows_whole
+    c.args.input.now b.known number c.args.passed.now b.first
+    (g.M.PassMachine.state c.args.machine.now) v c.requires.input c.requires.goes_on c.requires.followed
     g.D.Folder c.args.input.now.names.store.now b.kept (g.O.Sink.held c.args.out.now) (g.O.Sink.faults c.args.out.now) c.args.folder.now
     c.run_and_write-ran.new.folder c.args.name.now c.args.bytes.now c.run_and_write-ran.result.1 (g.M.PassMachine.state c.run_and_write-ran.new.machine)
     c.requires.name c.requires.bytes c.run_and_write-ran.ensures.written
-    (next_read g.M.PassMachine.drawing (IsDrawnBySome g.M.PassMachine) (g.met.M.PassMachine g.world.𝓛 g.world.𝓜 g.world.𝓡 ((λ s x. x), (λ x. x), (λ x. x), λ x. x)).shows_whole c.args.input.now b.known c.args.number c.args.passed.now b.first
-    (g.M.PassMachine.state c.args.machine.now) c.args.recency.now c.requires.input c.requires.goes_on c.requires.followed
-    (walk_state g.D.Folder c.args.input.now.names.store.now c.args.folder.now (b.kept ∷ (g.M.PassMachine.state c.args.machine.now).files)
-    (g.O.Sink.held c.args.out.now) (g.O.Sink.faults c.args.out.now)) at
-    (g.M.PassMachine.drawn c.run_and_write-ran.new.machine) (g.M.PassMachine.is_idle c.run_and_write-ran.new.machine) (g.M.PassMachine.state c.run_and_write-ran.new.machine) c.run_and_write-ran.result.0
-    c.run_and_write-ran.ensures.ran) at _ c.in_ok-written.was (g.O.Sink.held c.put_picture_line.new.out) (g.O.Sink.faults c.put_picture_line.new.out)
+    c.run_and_write-ran.ensures.read at _ c.in_ok-written.was (g.O.Sink.held c.put_picture_line.new.out) (g.O.Sink.faults c.put_picture_line.new.out)
     c.in_ok-put_picture_line.ensures.whole c.in_ok-put_picture_line.ensures.faults c.in_ok-report.report
     (ran_anyhow g.M.PassMachine.drawing (g.M.PassMachine.drawn c.run_and_write-ran.new.machine)
     (record { scene = input_scene c.args.input.now; picture = c.args.passed.now.picture + 1; batch = c.args.passed.now.next_plan.plan.elements })
@@ -105,13 +97,7 @@ returns-clause-ran g c =
 
 pub returns-in_err-written-clause-kept : goal.returns-in_err-written-clause-kept
 returns-in_err-written-clause-kept g c = record {
-  same = let b = c.requires.stands.0 in
-      (next_read g.M.PassMachine.drawing (IsDrawnBySome g.M.PassMachine) (g.met.M.PassMachine g.world.𝓛 g.world.𝓜 g.world.𝓡 ((λ s x. x), (λ x. x), (λ x. x), λ x. x)).shows_whole c.args.input.now b.known c.args.number c.args.passed.now b.first
-      (g.M.PassMachine.state c.args.machine.now) c.args.recency.now c.requires.input c.requires.goes_on c.requires.followed
-      (walk_state g.D.Folder c.args.input.now.names.store.now c.args.folder.now (b.kept ∷ (g.M.PassMachine.state c.args.machine.now).files)
-      (g.O.Sink.held c.args.out.now) (g.O.Sink.faults c.args.out.now)) c.requires.stands.1
-      (g.M.PassMachine.drawn c.run_and_write-ran.new.machine) (g.M.PassMachine.is_idle c.run_and_write-ran.new.machine)
-      (g.M.PassMachine.state c.run_and_write-ran.new.machine) c.run_and_write-ran.result.0 c.run_and_write-ran.ensures.ran).same;
+  same = c.run_and_write-ran.ensures.read.same;
   asked = c.run_and_write-ran.ensures.written.asked;
   faults = c.run_and_write-ran.ensures.written.faults;
   out_faults = omega arith;
@@ -119,13 +105,7 @@ returns-in_err-written-clause-kept g c = record {
 
 pub returns-in_err-put_picture_line-clause-kept : goal.returns-in_err-put_picture_line-clause-kept
 returns-in_err-put_picture_line-clause-kept g c = record {
-  same = let b = c.requires.stands.0 in
-      (next_read g.M.PassMachine.drawing (IsDrawnBySome g.M.PassMachine) (g.met.M.PassMachine g.world.𝓛 g.world.𝓜 g.world.𝓡 ((λ s x. x), (λ x. x), (λ x. x), λ x. x)).shows_whole c.args.input.now b.known c.args.number c.args.passed.now b.first
-      (g.M.PassMachine.state c.args.machine.now) c.args.recency.now c.requires.input c.requires.goes_on c.requires.followed
-      (walk_state g.D.Folder c.args.input.now.names.store.now c.args.folder.now (b.kept ∷ (g.M.PassMachine.state c.args.machine.now).files)
-      (g.O.Sink.held c.args.out.now) (g.O.Sink.faults c.args.out.now)) c.requires.stands.1
-      (g.M.PassMachine.drawn c.run_and_write-ran.new.machine) (g.M.PassMachine.is_idle c.run_and_write-ran.new.machine)
-      (g.M.PassMachine.state c.run_and_write-ran.new.machine) c.run_and_write-ran.result.0 c.run_and_write-ran.ensures.ran).same;
+  same = c.run_and_write-ran.ensures.read.same;
   asked = c.run_and_write-ran.ensures.written.asked;
   faults = c.run_and_write-ran.ensures.written.faults;
   out_faults = c.put_picture_line.ensures.faults;
@@ -133,13 +113,7 @@ returns-in_err-put_picture_line-clause-kept g c = record {
 
 pub returns-in_err-report-clause-kept : goal.returns-in_err-report-clause-kept
 returns-in_err-report-clause-kept g c = record {
-  same = let b = c.requires.stands.0 in
-      (next_read g.M.PassMachine.drawing (IsDrawnBySome g.M.PassMachine) (g.met.M.PassMachine g.world.𝓛 g.world.𝓜 g.world.𝓡 ((λ s x. x), (λ x. x), (λ x. x), λ x. x)).shows_whole c.args.input.now b.known c.args.number c.args.passed.now b.first
-      (g.M.PassMachine.state c.args.machine.now) c.args.recency.now c.requires.input c.requires.goes_on c.requires.followed
-      (walk_state g.D.Folder c.args.input.now.names.store.now c.args.folder.now (b.kept ∷ (g.M.PassMachine.state c.args.machine.now).files)
-      (g.O.Sink.held c.args.out.now) (g.O.Sink.faults c.args.out.now)) c.requires.stands.1
-      (g.M.PassMachine.drawn c.run_and_write-ran.new.machine) (g.M.PassMachine.is_idle c.run_and_write-ran.new.machine)
-      (g.M.PassMachine.state c.run_and_write-ran.new.machine) c.run_and_write-ran.result.0 c.run_and_write-ran.ensures.ran).same;
+  same = c.run_and_write-ran.ensures.read.same;
   asked = c.run_and_write-ran.ensures.written.asked;
   faults = c.run_and_write-ran.ensures.written.faults;
   out_faults = c.put_picture_line.ensures.faults;
@@ -147,13 +121,7 @@ returns-in_err-report-clause-kept g c = record {
 
 pub returns-clause-kept : goal.returns-clause-kept
 returns-clause-kept g c = record {
-  same = let b = c.requires.stands.0 in
-      (next_read g.M.PassMachine.drawing (IsDrawnBySome g.M.PassMachine) (g.met.M.PassMachine g.world.𝓛 g.world.𝓜 g.world.𝓡 ((λ s x. x), (λ x. x), (λ x. x), λ x. x)).shows_whole c.args.input.now b.known c.args.number c.args.passed.now b.first
-      (g.M.PassMachine.state c.args.machine.now) c.args.recency.now c.requires.input c.requires.goes_on c.requires.followed
-      (walk_state g.D.Folder c.args.input.now.names.store.now c.args.folder.now (b.kept ∷ (g.M.PassMachine.state c.args.machine.now).files)
-      (g.O.Sink.held c.args.out.now) (g.O.Sink.faults c.args.out.now)) c.requires.stands.1
-      (g.M.PassMachine.drawn c.run_and_write-ran.new.machine) (g.M.PassMachine.is_idle c.run_and_write-ran.new.machine)
-      (g.M.PassMachine.state c.run_and_write-ran.new.machine) c.run_and_write-ran.result.0 c.run_and_write-ran.ensures.ran).same;
+  same = c.run_and_write-ran.ensures.read.same;
   asked = c.run_and_write-ran.ensures.written.asked;
   faults = c.run_and_write-ran.ensures.written.faults;
   out_faults = c.put_picture_line.ensures.faults;

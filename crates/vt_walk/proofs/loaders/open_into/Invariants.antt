@@ -1,7 +1,7 @@
 use Rattle.std.proofs.Common.{◌≡◌, ◌+◌, ◌≤◌, length}
 use Rattle.std.specs.Prelude.{All}
 use Rattle.vt_outside.specs.Files.{bytes_at}
-use Rattle.vt_walk.specs.Opening.{IsFresh}
+use Rattle.vt_walk.specs.Opening.{IsFresh, KeepsFolder}
 use Rattle.vt_walk.proofs.loaders.open_into.Given as goal
 
 abbrev pub invariant-loop-i : goal.invariant-loop-i
@@ -10,7 +10,5 @@ invariant-loop-i g l = record {
       l.stores.elements;
   count : length l.stores.elements ≡ l._i;
   room : l.loaders ≤ l._i + l.stores.spare;
-  files : g.D.Folder.files l.folder ≡ g.D.Folder.files l.initial.folder;
-  asked : g.D.Folder.asked l.folder ≡ g.D.Folder.asked l.initial.folder;
-  faults : g.D.Folder.faults l.initial.folder ≤ g.D.Folder.faults l.folder;
+  kept : KeepsFolder g.D.Folder l.initial.folder l.folder;
 }

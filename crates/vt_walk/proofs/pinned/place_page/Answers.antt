@@ -1,61 +1,17 @@
 use Rattle.std.proofs.Common.{refl}
 use Rattle.std.specs.Prelude.{is_err}
 use Rattle.vt_outside.proofs.UnknownContents.{OnErr-all}
+use Rattle.vt_walk.proofs.Placed.{still_known}
 use Rattle.vt_walk.proofs.pinned.place_page.Goals as goal
-
-pub returns-in_err-read_tile-clause-faults : goal.returns-in_err-read_tile-clause-faults
-returns-in_err-read_tile-clause-faults g c = c.read_tile.ensures.faults
 
 pub returns-in_err-read_tile-clause-spare : goal.returns-in_err-read_tile-clause-spare
 returns-in_err-read_tile-clause-spare g c = c.read_tile.ensures.spare
 
-pub returns-in_err-read_tile-clause-bytes : goal.returns-in_err-read_tile-clause-bytes
-returns-in_err-read_tile-clause-bytes g c = c.read_tile.ensures.bytes
-
-pub returns-in_err-read_tile-clause-name : goal.returns-in_err-read_tile-clause-name
-returns-in_err-read_tile-clause-name g c = c.read_tile.ensures.name
-
-pub returns-in_err-read_tile-clause-shape : goal.returns-in_err-read_tile-clause-shape
-returns-in_err-read_tile-clause-shape g c = c.read_tile.ensures.shape
-
-pub returns-in_err-read_tile-clause-depth : goal.returns-in_err-read_tile-clause-depth
-returns-in_err-read_tile-clause-depth g c = c.read_tile.ensures.depth
-
-pub returns-in_err-place-clause-faults : goal.returns-in_err-place-clause-faults
-returns-in_err-place-clause-faults g c = c.read_tile.ensures.faults
-
 pub returns-in_err-place-clause-spare : goal.returns-in_err-place-clause-spare
 returns-in_err-place-clause-spare g c = c.read_tile.ensures.spare
 
-pub returns-in_err-place-clause-bytes : goal.returns-in_err-place-clause-bytes
-returns-in_err-place-clause-bytes g c = c.read_tile.ensures.bytes
-
-pub returns-in_err-place-clause-name : goal.returns-in_err-place-clause-name
-returns-in_err-place-clause-name g c = c.read_tile.ensures.name
-
-pub returns-in_err-place-clause-shape : goal.returns-in_err-place-clause-shape
-returns-in_err-place-clause-shape g c = c.read_tile.ensures.shape
-
-pub returns-in_err-place-clause-depth : goal.returns-in_err-place-clause-depth
-returns-in_err-place-clause-depth g c = c.read_tile.ensures.depth
-
-pub returns-clause-faults : goal.returns-clause-faults
-returns-clause-faults g c = c.read_tile.ensures.faults
-
 pub returns-clause-spare : goal.returns-clause-spare
 returns-clause-spare g c = c.read_tile.ensures.spare
-
-pub returns-clause-bytes : goal.returns-clause-bytes
-returns-clause-bytes g c = c.read_tile.ensures.bytes
-
-pub returns-clause-name : goal.returns-clause-name
-returns-clause-name g c = c.read_tile.ensures.name
-
-pub returns-clause-shape : goal.returns-clause-shape
-returns-clause-shape g c = c.read_tile.ensures.shape
-
-pub returns-clause-depth : goal.returns-clause-depth
-returns-clause-depth g c = c.read_tile.ensures.depth
 
 pub returns-in_err-read_tile-clause-idle : goal.returns-in_err-read_tile-clause-idle
 returns-in_err-read_tile-clause-idle g c = c.requires.idle
@@ -80,3 +36,30 @@ returns-in_err-read_tile-clause-part g c = OnErr-all c.from_residual.result _ (i
 
 pub returns-in_err-place-clause-part : goal.returns-in_err-place-clause-part
 returns-in_err-place-clause-part g c = OnErr-all c.from_residual-in_err-place.result _ (is_err c.read_tile.result, c.read_tile.ensures.asked)
+
+pub returns-in_err-read_tile-clause-kept : goal.returns-in_err-read_tile-clause-kept
+returns-in_err-read_tile-clause-kept g c = record {
+  same = record { name = c.read_tile.ensures.name; all_known = still_known _ _ _ c.read_tile.ensures.asked };
+  bytes = c.read_tile.ensures.bytes;
+  shape = c.read_tile.ensures.shape;
+  depth = c.read_tile.ensures.depth;
+  faults = c.read_tile.ensures.faults;
+}
+
+pub returns-in_err-place-clause-kept : goal.returns-in_err-place-clause-kept
+returns-in_err-place-clause-kept g c = record {
+  same = record { name = c.read_tile.ensures.name; all_known = still_known _ _ _ c.read_tile.ensures.asked };
+  bytes = c.read_tile.ensures.bytes;
+  shape = c.read_tile.ensures.shape;
+  depth = c.read_tile.ensures.depth;
+  faults = c.read_tile.ensures.faults;
+}
+
+pub returns-clause-kept : goal.returns-clause-kept
+returns-clause-kept g c = record {
+  same = record { name = c.read_tile.ensures.name; all_known = still_known _ _ _ c.read_tile.ensures.asked };
+  bytes = c.read_tile.ensures.bytes;
+  shape = c.read_tile.ensures.shape;
+  depth = c.read_tile.ensures.depth;
+  faults = c.read_tile.ensures.faults;
+}

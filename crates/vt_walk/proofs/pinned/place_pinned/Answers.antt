@@ -1,11 +1,12 @@
 use Rattle.std.proofs.Common.{[], ◌≡◌, ◌+◌, ◌-◌, refl, ap, ◌∙◌, arith}
+use Rattle.std.specs.Prelude.{is_some}
 use Rattle.vt_outside.proofs.UnknownContents.{OnErr-all}
 use Rattle.vt_pages.specs.Pages.{pages_of}
 use Rattle.vt_walk_decisions.specs.Machines.{MachineState}
 use Rattle.vt_walk.specs.Reads.{AreAskedAtMostFor, lost_reads}
 use Rattle.vt_walk.specs.Placing.{with_tiles}
 use Rattle.vt_walk.proofs.Asks.{known_same}
-use Rattle.vt_walk.proofs.Placed.{next_pinned, early_pinned, next_placed, asked_at, all_asked, last_asked, more_tiles, none_lost, last_lost}
+use Rattle.vt_walk.proofs.Placed.{next_pinned, early_pinned, next_placed, asked_at, all_asked, last_asked, more_tiles, none_lost, last_lost, store_kept}
 use Rattle.vt_walk.proofs.pinned.place_pinned.Goals as goal
 
 pub place_page-requires-clause-next : goal.place_page-requires-clause-next
@@ -34,7 +35,7 @@ returns-in_err-place_page-clause-part g c =
     (asked_at c.args.geometry.now c.loop-frame.store.shape c.args.store.now.depth c.loop-frame.store.depth
     (pages_of c.args.geometry.now - c.args.pinned + c.loop-frame.frame) page part.0
     (g.F.File.asked c.loop-frame.store.file) (g.F.File.asked c.place_page.new.store.file)
-    (c.loop-frame.invariant.shape ∙ c.requires.shape) c.loop-frame.invariant.depth
+    (c.loop-frame.invariant.kept.shape ∙ c.requires.shape) c.loop-frame.invariant.kept.depth
     (c.pinned_page-page.ensures ∙ ap (λ n. n - c.args.pinned + c.loop-frame.frame) c.page_count-pages.ensures.pages) part.1))
 
 pub returns-in_err-place_page-clause-lost : goal.returns-in_err-place_page-clause-lost
@@ -47,7 +48,7 @@ returns-in_err-place_page-clause-lost g c =
     (asked_at c.args.geometry.now c.loop-frame.store.shape c.args.store.now.depth c.loop-frame.store.depth
     (pages_of c.args.geometry.now - c.args.pinned + c.loop-frame.frame) page part.0
     (g.F.File.asked c.loop-frame.store.file) (g.F.File.asked c.place_page.new.store.file)
-    (c.loop-frame.invariant.shape ∙ c.requires.shape) c.loop-frame.invariant.depth
+    (c.loop-frame.invariant.kept.shape ∙ c.requires.shape) c.loop-frame.invariant.kept.depth
     (c.pinned_page-page.ensures ∙ ap (λ n. n - c.args.pinned + c.loop-frame.frame) c.page_count-pages.ensures.pages) part.1)
 
 pub loop-frame-preserved : goal.loop-frame-preserved
@@ -64,13 +65,9 @@ loop-frame-preserved g c =
           (asked_at c.args.geometry.now c.loop-frame.store.shape c.args.store.now.depth c.loop-frame.store.depth
           (pages_of c.args.geometry.now - c.args.pinned + c.loop-frame.frame) page _
           (g.F.File.asked c.loop-frame.store.file) (g.F.File.asked c.place_page.new.store.file)
-          (c.loop-frame.invariant.shape ∙ c.requires.shape) c.loop-frame.invariant.depth at c.in_ok-place_page.ensures.asked);
+          (c.loop-frame.invariant.kept.shape ∙ c.requires.shape) c.loop-frame.invariant.kept.depth at c.in_ok-place_page.ensures.asked);
       room = omega (arith, c.loop-frame.invariant.room, c.place_page.ensures.spare);
-      faults = omega (arith, c.loop-frame.invariant.faults, c.place_page.ensures.faults);
-      bytes = c.place_page.ensures.bytes ∙ c.loop-frame.invariant.bytes;
-      name = c.place_page.ensures.name ∙ c.loop-frame.invariant.name;
-      shape = c.place_page.ensures.shape ∙ c.loop-frame.invariant.shape;
-      depth = c.place_page.ensures.depth ∙ c.loop-frame.invariant.depth;
+      kept = store_kept g.F.File _ _ _ c.loop-frame.invariant.kept c.place_page.ensures.kept;
     }
 
 pub returns-clause-asked : goal.returns-clause-asked
@@ -88,54 +85,18 @@ returns-clause-lost g c =
 pub returns-in_err-reserve-clause-files : goal.returns-in_err-reserve-clause-files
 returns-in_err-reserve-clause-files g c = refl
 
-pub returns-in_err-reserve-clause-faults : goal.returns-in_err-reserve-clause-faults
-returns-in_err-reserve-clause-faults g c = omega (arith, c.reserve.ensures.faults)
-
-pub returns-in_err-reserve-clause-bytes : goal.returns-in_err-reserve-clause-bytes
-returns-in_err-reserve-clause-bytes g c = c.reserve.ensures.bytes
-
-pub returns-in_err-reserve-clause-name : goal.returns-in_err-reserve-clause-name
-returns-in_err-reserve-clause-name g c = c.reserve.ensures.name
-
 pub returns-in_err-buffer-clause-files : goal.returns-in_err-buffer-clause-files
 returns-in_err-buffer-clause-files g c = refl
-
-pub returns-in_err-buffer-clause-faults : goal.returns-in_err-buffer-clause-faults
-returns-in_err-buffer-clause-faults g c = omega (arith, c.reserve.ensures.faults)
-
-pub returns-in_err-buffer-clause-bytes : goal.returns-in_err-buffer-clause-bytes
-returns-in_err-buffer-clause-bytes g c = c.reserve.ensures.bytes
-
-pub returns-in_err-buffer-clause-name : goal.returns-in_err-buffer-clause-name
-returns-in_err-buffer-clause-name g c = c.reserve.ensures.name
 
 pub returns-in_err-place_page-clause-files : goal.returns-in_err-place_page-clause-files
 returns-in_err-place_page-clause-files g c =
     ap (λ (m : MachineState). m.files) (c.in_err-place_page.ensures.refused ∙ c.loop-frame.invariant.state)
-
-pub returns-in_err-place_page-clause-faults : goal.returns-in_err-place_page-clause-faults
-returns-in_err-place_page-clause-faults g c = omega (arith, c.loop-frame.invariant.faults, c.place_page.ensures.faults)
-
-pub returns-in_err-place_page-clause-bytes : goal.returns-in_err-place_page-clause-bytes
-returns-in_err-place_page-clause-bytes g c = c.place_page.ensures.bytes ∙ c.loop-frame.invariant.bytes
-
-pub returns-in_err-place_page-clause-name : goal.returns-in_err-place_page-clause-name
-returns-in_err-place_page-clause-name g c = c.place_page.ensures.name ∙ c.loop-frame.invariant.name
 
 pub returns-clause-idle : goal.returns-clause-idle
 returns-clause-idle g c = c.loop-frame.invariant.idle
 
 pub returns-clause-files : goal.returns-clause-files
 returns-clause-files g c = ap (λ (m : MachineState). m.files) c.loop-frame.invariant.state
-
-pub returns-clause-faults : goal.returns-clause-faults
-returns-clause-faults g c = c.loop-frame.invariant.faults
-
-pub returns-clause-bytes : goal.returns-clause-bytes
-returns-clause-bytes g c = c.loop-frame.invariant.bytes
-
-pub returns-clause-name : goal.returns-clause-name
-returns-clause-name g c = c.loop-frame.invariant.name
 
 pub returns-in_err-reserve-clause-part : goal.returns-in_err-reserve-clause-part
 returns-in_err-reserve-clause-part g c = OnErr-all c.from_residual.result _
@@ -158,3 +119,27 @@ returns-in_err-buffer-clause-lost g c =
     known_same (λ old new. lost_reads c.args.geometry.now c.args.store.now.depth c.args.pinned new
     ≡ lost_reads c.args.geometry.now c.args.store.now.depth c.args.pinned old) (g.F.File.asked c.args.store.now.file)
     (g.F.File.asked c.reserve.new.self.file) c.reserve.ensures.asked (λ places. refl)
+
+pub returns-in_err-reserve-clause-kept : goal.returns-in_err-reserve-clause-kept
+returns-in_err-reserve-clause-kept g c = record {
+  same = record { name = c.reserve.ensures.name; all_known = ap is_some c.reserve.ensures.asked };
+  bytes = c.reserve.ensures.bytes;
+  shape = c.reserve.ensures.shape;
+  depth = c.reserve.ensures.depth;
+  faults = omega (arith, c.reserve.ensures.faults);
+}
+
+pub returns-in_err-buffer-clause-kept : goal.returns-in_err-buffer-clause-kept
+returns-in_err-buffer-clause-kept g c = record {
+  same = record { name = c.reserve.ensures.name; all_known = ap is_some c.reserve.ensures.asked };
+  bytes = c.reserve.ensures.bytes;
+  shape = c.reserve.ensures.shape;
+  depth = c.reserve.ensures.depth;
+  faults = omega (arith, c.reserve.ensures.faults);
+}
+
+pub returns-in_err-place_page-clause-kept : goal.returns-in_err-place_page-clause-kept
+returns-in_err-place_page-clause-kept g c = store_kept g.F.File _ _ _ c.loop-frame.invariant.kept c.place_page.ensures.kept
+
+pub returns-clause-kept : goal.returns-clause-kept
+returns-clause-kept g c = c.loop-frame.invariant.kept

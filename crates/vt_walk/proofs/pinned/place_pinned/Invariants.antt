@@ -1,5 +1,5 @@
 use Rattle.std.proofs.Common.{◌≡◌, ◌+◌, ◌≤◌}
-use Rattle.vt_walk.specs.Placing.{with_changes, first_pinned, with_tiles}
+use Rattle.vt_walk.specs.Placing.{KeepsStore, with_changes, first_pinned, with_tiles}
 use Rattle.vt_walk.proofs.pinned.place_pinned.Given as goal
 
 abbrev pub invariant-loop-frame : goal.invariant-loop-frame
@@ -8,9 +8,5 @@ invariant-loop-frame g l = record {
   state : g.M.PassMachine.state l.machine ≡ with_changes (first_pinned l.geometry l.pinned l.frame) (g.M.PassMachine.state l.fn.machine);
   asked : g.F.File.asked l.store.file ≡ with_tiles l.geometry l.fn.store.depth l.pinned l.frame (g.F.File.asked l.fn.store.file);
   room : l.pinned ≤ l.frame + g.F.File.spare l.store.file;
-  faults : g.F.File.faults l.fn.store.file ≤ g.F.File.faults l.store.file;
-  bytes : g.F.File.bytes l.store.file ≡ g.F.File.bytes l.fn.store.file;
-  name : g.F.File.name l.store.file ≡ g.F.File.name l.fn.store.file;
-  shape : l.store.shape ≡ l.fn.store.shape;
-  depth : l.store.depth ≡ l.fn.store.depth;
+  kept : KeepsStore g.F.File l.fn.store l.store;
 }

@@ -19,7 +19,8 @@ returns-in_err-place_pinned-clause-begun g c =
     held out_faults c.requires.input c.requires.enough_frames (subst
     (λ s. IsStoreIfKnown (g.D.File.File.bytes c.args.store.now.file) s c.args.store.now.depth) c.requires.shape c.requires.store) c.requires.depth
     c.requires.begins c.requires.all_known
-    c.in_err-place_pinned.ensures.files c.in_err-place_pinned.ensures.part c.in_err-place_pinned.ensures.lost c.in_err-place_pinned.ensures.faults
+    c.in_err-place_pinned.ensures.files c.in_err-place_pinned.ensures.part c.in_err-place_pinned.ensures.lost
+    c.in_err-place_pinned.ensures.kept.faults
     _ p.0 (λ is. c.in_err-place_pinned.ensures.failed (ap Err is)) p.2)
 
 pub returns-in_err-recency-clause-begun : goal.returns-in_err-recency-clause-begun
@@ -35,7 +36,7 @@ returns-in_err-recency-clause-begun g c =
     (λ s. IsStoreIfKnown (g.D.File.File.bytes c.args.store.now.file) s c.args.store.now.depth) c.requires.shape c.requires.store) c.requires.depth
     c.requires.begins c.requires.all_known
     (g.D.Folder.files c.args.folder.now) (g.D.Folder.asked c.args.folder.now) (g.D.Folder.faults c.args.folder.now)
-    c.in_ok-place_pinned.ensures.files c.in_ok-place_pinned.ensures.asked c.in_ok-place_pinned.ensures.faults (inl refl) refl (omega arith)
+    c.in_ok-place_pinned.ensures.files c.in_ok-place_pinned.ensures.asked c.in_ok-place_pinned.ensures.kept.faults (inl refl) refl (omega arith)
     NoMemory p.0 (λ is. absurd (cc is)) p.2)
 
 pub begin_journal-requires-after_bounds : goal.begin_journal-requires-after_bounds
@@ -62,7 +63,8 @@ returns-in_err-begin_journal-clause-begun g c =
     (λ s. IsStoreIfKnown (g.D.File.File.bytes c.args.store.now.file) s c.args.store.now.depth) c.requires.shape c.requires.store) c.requires.depth
     c.requires.begins c.requires.all_known
     (g.D.Folder.files c.begin_journal.new.folder) (g.D.Folder.asked c.begin_journal.new.folder) (g.D.Folder.faults c.begin_journal.new.folder)
-    c.in_ok-place_pinned.ensures.files c.in_ok-place_pinned.ensures.asked c.in_ok-place_pinned.ensures.faults c.in_err-begin_journal.ensures.written.part
+    c.in_ok-place_pinned.ensures.files c.in_ok-place_pinned.ensures.asked c.in_ok-place_pinned.ensures.kept.faults
+    c.in_err-begin_journal.ensures.written.part
     c.in_err-begin_journal.ensures.written.asked c.in_err-begin_journal.ensures.written.faults _ p.0 (λ is. c.in_err-begin_journal.ensures.written.failed (ap Err is)) p.2)
 
 pub returns-clause-begun : goal.returns-clause-begun
@@ -77,44 +79,41 @@ returns-clause-begun g c = λ held out_faults. head_stands g.M.PassMachine.drawi
     c.requires.begins c.requires.all_known
     (g.D.Folder.files c.begin_journal.new.folder) (g.D.Folder.asked c.begin_journal.new.folder) (g.D.Folder.faults c.begin_journal.new.folder)
     c.in_ok-recency.recency
-    c.in_ok-place_pinned.ensures.placed c.in_ok-place_pinned.ensures.asked c.in_ok-place_pinned.ensures.faults c.in_ok-begin_journal.ensures.written.whole
+    c.in_ok-place_pinned.ensures.placed c.in_ok-place_pinned.ensures.asked c.in_ok-place_pinned.ensures.kept.faults
+    c.in_ok-begin_journal.ensures.written.whole
     c.in_ok-begin_journal.ensures.there c.in_ok-begin_journal.ensures.written.asked c.in_ok-begin_journal.ensures.written.faults c.in_ok-recency.ensures.first
-
-pub returns-in_err-place_pinned-clause-files : goal.returns-in_err-place_pinned-clause-files
-returns-in_err-place_pinned-clause-files g c = c.place_pinned.ensures.files
-
-pub returns-in_err-place_pinned-clause-asked : goal.returns-in_err-place_pinned-clause-asked
-returns-in_err-place_pinned-clause-asked g c = refl
-
-pub returns-in_err-place_pinned-clause-faults : goal.returns-in_err-place_pinned-clause-faults
-returns-in_err-place_pinned-clause-faults g c = omega arith
-
-pub returns-in_err-recency-clause-files : goal.returns-in_err-recency-clause-files
-returns-in_err-recency-clause-files g c = c.place_pinned.ensures.files
-
-pub returns-in_err-recency-clause-asked : goal.returns-in_err-recency-clause-asked
-returns-in_err-recency-clause-asked g c = refl
-
-pub returns-in_err-recency-clause-faults : goal.returns-in_err-recency-clause-faults
-returns-in_err-recency-clause-faults g c = omega arith
-
-pub returns-in_err-begin_journal-clause-files : goal.returns-in_err-begin_journal-clause-files
-returns-in_err-begin_journal-clause-files g c = c.place_pinned.ensures.files
-
-pub returns-in_err-begin_journal-clause-asked : goal.returns-in_err-begin_journal-clause-asked
-returns-in_err-begin_journal-clause-asked g c = c.begin_journal.ensures.written.asked
-
-pub returns-in_err-begin_journal-clause-faults : goal.returns-in_err-begin_journal-clause-faults
-returns-in_err-begin_journal-clause-faults g c = c.begin_journal.ensures.written.faults
-
-pub returns-clause-files : goal.returns-clause-files
-returns-clause-files g c = c.place_pinned.ensures.files
-
-pub returns-clause-asked : goal.returns-clause-asked
-returns-clause-asked g c = c.begin_journal.ensures.written.asked
-
-pub returns-clause-faults : goal.returns-clause-faults
-returns-clause-faults g c = c.begin_journal.ensures.written.faults
 
 pub returns-clause-idle : goal.returns-clause-idle
 returns-clause-idle g c = c.in_ok-place_pinned.ensures.idle
+
+pub returns-in_err-place_pinned-clause-kept : goal.returns-in_err-place_pinned-clause-kept
+returns-in_err-place_pinned-clause-kept g c = record {
+  asked = refl;
+  faults = omega arith;
+  store = c.place_pinned.ensures.kept.same;
+  files = c.place_pinned.ensures.files;
+}
+
+pub returns-in_err-recency-clause-kept : goal.returns-in_err-recency-clause-kept
+returns-in_err-recency-clause-kept g c = record {
+  asked = refl;
+  faults = omega arith;
+  store = c.place_pinned.ensures.kept.same;
+  files = c.place_pinned.ensures.files;
+}
+
+pub returns-in_err-begin_journal-clause-kept : goal.returns-in_err-begin_journal-clause-kept
+returns-in_err-begin_journal-clause-kept g c = record {
+  asked = c.begin_journal.ensures.written.asked;
+  faults = c.begin_journal.ensures.written.faults;
+  store = c.place_pinned.ensures.kept.same;
+  files = c.place_pinned.ensures.files;
+}
+
+pub returns-clause-kept : goal.returns-clause-kept
+returns-clause-kept g c = record {
+  asked = c.begin_journal.ensures.written.asked;
+  faults = c.begin_journal.ensures.written.faults;
+  store = c.place_pinned.ensures.kept.same;
+  files = c.place_pinned.ensures.files;
+}

@@ -1,11 +1,11 @@
-use Rattle.std.proofs.Common.{List, ◌∷◌, sym, subst, arith, ◌∙◌}
+use Rattle.std.proofs.Common.{◌∷◌, sym, subst}
 use Rattle.std.proofs.lemmas.Result.{err_from_is_err_and}
 use Rattle.vt_walk_decisions.specs.Machines.{file_state}
-use Rattle.vt_walk_decisions.specs.Requests.{FileState, AreSameFiles}
 use Rattle.vt_walk.specs.States.{walk_state}
 use Rattle.vt_walk.specs.WalkInputs.{given_of}
 use Rattle.vt_walk.specs.WalkSteps.{LeftByRefusal}
 use Rattle.vt_walk.specs.DrawnBy.{IsDrawnBySome}
+use Rattle.vt_walk.proofs.Keeping.{begun_keeps, kept_on}
 use Rattle.vt_walk.proofs.walk.walk_all.Goals as goal
 
 pub returns-in_err-recency-clause-walked : goal.returns-in_err-recency-clause-walked
@@ -42,33 +42,17 @@ returns-clause-walked g c = c.walk_on.ensures.walked (record {
       (g.O.Sink.faults c.args.out.now));
 }) (c.in_ok-recency.ensures.begun (g.O.Sink.held c.args.out.now) (g.O.Sink.faults c.args.out.now))
 
-pub returns-in_err-recency-clause-store : goal.returns-in_err-recency-clause-store
-returns-in_err-recency-clause-store g c = c.begin.ensures.store
-
-pub returns-in_err-recency-clause-asked : goal.returns-in_err-recency-clause-asked
-returns-in_err-recency-clause-asked g c = c.begin.ensures.asked
-
-pub returns-in_err-recency-clause-faults : goal.returns-in_err-recency-clause-faults
-returns-in_err-recency-clause-faults g c = c.begin.ensures.faults
-
-pub returns-in_err-recency-clause-out_faults : goal.returns-in_err-recency-clause-out_faults
-returns-in_err-recency-clause-out_faults g c = omega arith
-
-pub returns-clause-store : goal.returns-clause-store
-returns-clause-store g c = c.begin.ensures.store
-
-pub returns-clause-asked : goal.returns-clause-asked
-returns-clause-asked g c = c.walk_on.ensures.kept.asked ∙ c.begin.ensures.asked
-
-pub returns-clause-faults : goal.returns-clause-faults
-returns-clause-faults g c = omega (arith, c.begin.ensures.faults, c.walk_on.ensures.kept.faults)
-
-pub returns-clause-out_faults : goal.returns-clause-out_faults
-returns-clause-out_faults g c = c.walk_on.ensures.kept.out_faults
-
 pub returns-clause-counted : goal.returns-clause-counted
 returns-clause-counted g c = c.walk_on.ensures.counted
 
-pub returns-clause-same : goal.returns-clause-same
-returns-clause-same g c = subst (λ (files : List FileState). AreSameFiles files (g.M.PassMachine.state c.walk_on.new.machine).files)
-    c.begin.ensures.files c.walk_on.ensures.kept.same
+pub returns-in_err-recency-clause-store : goal.returns-in_err-recency-clause-store
+returns-in_err-recency-clause-store g c = c.begin.ensures.kept.store
+
+pub returns-in_err-recency-clause-kept : goal.returns-in_err-recency-clause-kept
+returns-in_err-recency-clause-kept g c = begun_keeps g.D.Folder _ _ _ _ _ _ _ c.begin.ensures.kept
+
+pub returns-clause-store : goal.returns-clause-store
+returns-clause-store g c = c.begin.ensures.kept.store
+
+pub returns-clause-kept : goal.returns-clause-kept
+returns-clause-kept g c = kept_on _ _ _ (begun_keeps g.D.Folder _ _ _ _ _ _ _ c.begin.ensures.kept) c.walk_on.ensures.kept

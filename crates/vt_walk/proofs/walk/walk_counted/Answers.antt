@@ -1,4 +1,4 @@
-use Rattle.std.proofs.Common.{◌≡◌, ℕ, ◌<◌, ◌≤◌, [], ◌∷◌, Err, ap, sym, ◌∙◌, subst}
+use Rattle.std.proofs.Common.{◌≡◌, ℕ, ◌<◌, ◌≤◌, [], ◌∷◌, Err, ap, sym, ◌∙◌, subst, arith}
 use Rattle.std.specs.Prelude.{MatchResult, option_map}
 use Rattle.vt_ppm.specs.Depths.{IsDepth}
 use Rattle.vt_pages.specs.Limits.{most_pictures}
@@ -55,7 +55,7 @@ returns-clause-walked g c =
     subst (λ (walk : WalkGiven). MatchResult c.walk_store-walked.result (λ _. Finished drawn walk first last) (LeftByRefusal drawn walk first last)) same
     (store_closed g.D.Folder name drawn (given c.geometry-geometry.result c.depth.result c.mode_of.result) c.walk_store-walked.result first
     (file_state g.D.File.File c.walk_store-walked.new.store.file) c.walk_store-walked.new.folder c.close.new.self
-    (g.O.Sink.held c.walk_store-walked.new.out) (g.O.Sink.faults c.walk_store-walked.new.out) c.walk_store-walked.ensures.opened
+    (g.O.Sink.held c.walk_store-walked.new.out) (g.O.Sink.faults c.walk_store-walked.new.out) c.walk_store-walked.ensures.closed.opened
     closed faults c.close.ensures.files c.walk_store-walked.ensures.walked)
 
 pub returns-clause-others : goal.returns-clause-others
@@ -64,9 +64,9 @@ returns-clause-others g c =
     let mid = g.D.Folder.asked c.walk_store-walked.new.folder in
     let closed = subst (λ f. g.D.Folder.asked c.close.new.self ≡ option_map (with_places (g.D.File.File.name f)
     (g.D.File.File.asked f)) mid) c.into_file.ensures c.close.ensures.asked in
-    others_chain name (g.D.Folder.asked c.args.folder.now) mid (g.D.Folder.asked c.close.new.self) c.walk_store-walked.ensures.others
+    others_chain name (g.D.Folder.asked c.args.folder.now) mid (g.D.Folder.asked c.close.new.self) c.walk_store-walked.ensures.closed.others
     (others_closed name 1 (file_state g.D.File.File c.walk_store-walked.new.store.file ∷ []) mid (g.D.Folder.asked c.close.new.self)
-    c.walk_store-walked.ensures.opened closed)
+    c.walk_store-walked.ensures.closed.opened closed)
 
 pub returns-clause-few : goal.returns-clause-few
 returns-clause-few g c = λ low.
@@ -74,3 +74,9 @@ returns-clause-few g c = λ low.
     c.pinned_count.ensures.count ∙ ap (λ (s : Shape). pinned_of s c.args.settings.now.pinned) c.geometry-geometry.ensures.shape in
     c.walk_store-walked.ensures.few (subst (λ n. c.args.settings.now.frames < n) (sym count) low)
     ∙ ap (λ (n : ℕ). Err (TooFewFrames c.args.settings.now.frames n)) count
+
+pub returns-clause-faults : goal.returns-clause-faults
+returns-clause-faults g c = omega (arith, c.walk_store-walked.ensures.closed.faults, c.close.ensures.kept)
+
+pub returns-clause-out_faults : goal.returns-clause-out_faults
+returns-clause-out_faults g c = c.walk_store-walked.ensures.closed.out_faults

@@ -1,12 +1,14 @@
-use Rattle.std.proofs.Common.{[], ◌∷◌, ◌<◌, ◌≤◌, Err, refl, ap, sym, subst, rules, arith}
+use Rattle.std.proofs.Common.{[], ◌∷◌, ◌<◌, ◌≤◌, Option, Err, refl, ap, sym, subst, rules, arith}
 use Rattle.std.specs.Prelude.{MatchBool}
 use Rattle.vt_walk_decisions.specs.Machines.{file_state}
 use Rattle.vt_walk_decisions.specs.declared.error.WalkError.{WalkError}
+use Rattle.vt_outside.specs.Files.{Asked}
 use Rattle.vt_walk.specs.States.{walk_state}
+use Rattle.vt_walk.specs.Closing.{AreOtherNamesAsBefore}
 use Rattle.vt_walk.specs.WalkInputs.{given_of}
 use Rattle.vt_walk.specs.WalkSteps.{LeftByRefusal}
 use Rattle.vt_walk.specs.DrawnBy.{IsDrawnBySome}
-use Rattle.vt_walk.proofs.Concluding.{known_there, opened_first, refused_first}
+use Rattle.vt_walk.proofs.Concluding.{closed_same, known_there, opened_first, refused_first}
 use Rattle.vt_walk.proofs.walk.walk_store.Goals as goal
 
 pub open_loaders-requires-clause-there : goal.open_loaders-requires-clause-there
@@ -24,7 +26,7 @@ returns-in-Ok-clause-walked g c =
     (g.O.Sink.faults c.args.out.now)
     (walk_state g.D.Folder name c.walk_stores.new.folder (file_state g.D.File.File c.walk_stores.new.store.file ∷ []) (g.O.Sink.held c.walk_stores.new.out)
     (g.O.Sink.faults c.walk_stores.new.out))
-    c.open_loaders.ensures.files c.open_loaders.ensures.asked c.open_loaders.ensures.faults c.walk_stores.ensures.walked
+    c.open_loaders.ensures.kept.files c.open_loaders.ensures.kept.asked c.open_loaders.ensures.kept.faults c.walk_stores.ensures.walked
 
 pub returns-in-Err-clause-walked : goal.returns-in-Err-clause-walked
 returns-in-Err-clause-walked g c =
@@ -40,7 +42,8 @@ returns-in-Err-clause-walked g c =
     (walk_state g.D.Folder name c.open_loaders.new.folder (kept ∷ []) held faults) e)
     (sym c.into.ensures)
     (refused_first g.D.Folder name drawn given kept c.args.folder.now c.open_loaders.new.folder held faults c.in-Err.refusal
-    c.open_loaders.ensures.files c.open_loaders.ensures.asked c.open_loaders.ensures.faults (λ is. c.in-Err.ensures.failed (ap Err is)))
+    c.open_loaders.ensures.kept.files c.open_loaders.ensures.kept.asked c.open_loaders.ensures.kept.faults
+    (λ is. c.in-Err.ensures.failed (ap Err is)))
 
 pub returns-then-has_too_few_frames-clause-walked : goal.returns-then-has_too_few_frames-clause-walked
 returns-then-has_too_few_frames-clause-walked g c = (
@@ -54,29 +57,24 @@ returns-then-has_too_few_frames-clause-walked g c = (
   },
 )
 
-pub returns-in-Ok-clause-faults : goal.returns-in-Ok-clause-faults
-returns-in-Ok-clause-faults g c = omega (arith, c.open_loaders.ensures.faults, c.walk_stores.ensures.faults)
-
-pub returns-in-Ok-clause-out_faults : goal.returns-in-Ok-clause-out_faults
-returns-in-Ok-clause-out_faults g c = c.walk_stores.ensures.out_faults
-
 pub returns-in-Ok-clause-counted : goal.returns-in-Ok-clause-counted
 returns-in-Ok-clause-counted g c = c.walk_stores.ensures.counted
 
-pub returns-in-Ok-clause-opened : goal.returns-in-Ok-clause-opened
-returns-in-Ok-clause-opened g c = c.walk_stores.ensures.opened
+pub returns-in-Ok-clause-closed : goal.returns-in-Ok-clause-closed
+returns-in-Ok-clause-closed g c =
+    let closed = c.walk_stores.ensures.closed in
+    let same = c.open_loaders.ensures.kept.asked in
+    let name = c.args.input.now.names.store.now in
+    record {
+      opened = closed.opened;
+      others = subst (λ (a : Option Asked). AreOtherNamesAsBefore name a (g.D.Folder.asked c.walk_stores.new.folder)) same closed.others;
+      faults = omega (arith, c.open_loaders.ensures.kept.faults, closed.faults);
+      out_faults = closed.out_faults;
+    }
 
-pub returns-in-Err-clause-faults : goal.returns-in-Err-clause-faults
-returns-in-Err-clause-faults g c = c.open_loaders.ensures.faults
+pub returns-in-Err-clause-closed : goal.returns-in-Err-clause-closed
+returns-in-Err-clause-closed g c =
+    closed_same _ _ _ _ _ _ _ c.requires.opened c.open_loaders.ensures.kept.asked c.open_loaders.ensures.kept.faults
 
-pub returns-in-Err-clause-out_faults : goal.returns-in-Err-clause-out_faults
-returns-in-Err-clause-out_faults g c = omega arith
-
-pub returns-then-has_too_few_frames-clause-faults : goal.returns-then-has_too_few_frames-clause-faults
-returns-then-has_too_few_frames-clause-faults g c = omega arith
-
-pub returns-then-has_too_few_frames-clause-out_faults : goal.returns-then-has_too_few_frames-clause-out_faults
-returns-then-has_too_few_frames-clause-out_faults g c = omega arith
-
-pub returns-then-has_too_few_frames-clause-opened : goal.returns-then-has_too_few_frames-clause-opened
-returns-then-has_too_few_frames-clause-opened g c = c.requires.opened
+pub returns-then-has_too_few_frames-clause-closed : goal.returns-then-has_too_few_frames-clause-closed
+returns-then-has_too_few_frames-clause-closed g c = closed_same _ _ _ _ _ _ _ c.requires.opened refl (omega arith)

@@ -58,38 +58,24 @@ returns-in-Err-clause-walked g c =
     (g.D.Folder.faults last)) c.in-Err.ensures.refused c.close_stores.ensures.rose)
     c.close_stores.ensures.files)
 
-pub returns-in-Err-clause-opened : goal.returns-in-Err-clause-opened
-returns-in-Err-clause-opened g c =
-    let all_known : is_some (g.D.Folder.asked c.close_stores.new.folder) ≡ is_some (g.D.Folder.asked c.args.folder.now) =
-    ap (λ (a : Option Asked). is_some a) c.close_stores.ensures.asked
-    ∙ closed_knows (files_of g.D.File.File c.in-Err.stores.elements) (g.D.Folder.asked c.args.folder.now) in
-    let kept = file_state g.D.File.File c.args.store.now.file in
-    one_open 1 c.args.input.now.names.store.now (g.D.Folder.asked c.args.folder.now) (g.D.Folder.asked c.close_stores.new.folder) kept kept
-    c.requires.opened (record { name = refl; all_known = refl }) all_known
-
-pub returns-in-Err-clause-others : goal.returns-in-Err-clause-others
-returns-in-Err-clause-others g c =
-    others_closed c.args.input.now.names.store.now c.args.input.now.settings.crew.loaders (files_of g.D.File.File c.args.stores.elements)
-    (g.D.Folder.asked c.args.folder.now) (g.D.Folder.asked c.close_stores.new.folder) c.requires.stores.opened
-    (c.close_stores.ensures.asked ∙ ap (λ (fs : List FileState). with_closed fs (g.D.Folder.asked c.args.folder.now)) c.in-Err.ensures.refused)
-
 pub returns-in-Ok-clause-counted : goal.returns-in-Ok-clause-counted
 returns-in-Ok-clause-counted g c = c.walk_machine.ensures.counted
 
-pub returns-in-Ok-clause-opened : goal.returns-in-Ok-clause-opened
-returns-in-Ok-clause-opened g c = c.walk_machine.ensures.opened
+pub returns-in-Ok-clause-closed : goal.returns-in-Ok-clause-closed
+returns-in-Ok-clause-closed g c = c.walk_machine.ensures.closed
 
-pub returns-in-Ok-clause-others : goal.returns-in-Ok-clause-others
-returns-in-Ok-clause-others g c = c.walk_machine.ensures.others
-
-pub returns-in-Ok-clause-faults : goal.returns-in-Ok-clause-faults
-returns-in-Ok-clause-faults g c = c.walk_machine.ensures.faults
-
-pub returns-in-Ok-clause-out_faults : goal.returns-in-Ok-clause-out_faults
-returns-in-Ok-clause-out_faults g c = c.walk_machine.ensures.out_faults
-
-pub returns-in-Err-clause-faults : goal.returns-in-Err-clause-faults
-returns-in-Err-clause-faults g c = c.close_stores.ensures.faults
-
-pub returns-in-Err-clause-out_faults : goal.returns-in-Err-clause-out_faults
-returns-in-Err-clause-out_faults g c = omega arith
+pub returns-in-Err-clause-closed : goal.returns-in-Err-clause-closed
+returns-in-Err-clause-closed g c =
+    let name = c.args.input.now.names.store.now in
+    let old = g.D.Folder.asked c.args.folder.now in
+    let last = g.D.Folder.asked c.close_stores.new.folder in
+    let kept = file_state g.D.File.File c.args.store.now.file in
+    let all_known : is_some last ≡ is_some old =
+    ap (λ (a : Option Asked). is_some a) c.close_stores.ensures.asked ∙ closed_knows (files_of g.D.File.File c.in-Err.stores.elements) old in
+    record {
+      opened = one_open 1 name old last kept kept c.requires.opened (record { name = refl; all_known = refl }) all_known;
+      others = others_closed name c.args.input.now.settings.crew.loaders (files_of g.D.File.File c.args.stores.elements) old last
+          c.requires.stores.opened (c.close_stores.ensures.asked ∙ ap (λ (fs : List FileState). with_closed fs old) c.in-Err.ensures.refused);
+      faults = c.close_stores.ensures.faults;
+      out_faults = omega arith;
+    }

@@ -8,12 +8,16 @@ use Rattle.vt_walk.specs.DrawnBy.{IsDrawnBySome}
 use Rattle.vt_walk_decisions.specs.Judging.{IsEnd}
 use Rattle.vt_walk.proofs.Ending.{rows_count, rows_full, same_picture, next_picture, picture_broke, line_broke}
 use Rattle.vt_walk.proofs.Going.{room_left}
+use Rattle.vt_walk.proofs.Keeping.{kept_here}
 use Rattle.vt_walk.proofs.walk_steps.end_step.Goals as goal
 
 pub returns-then-not-is_finished-clause-ended : goal.returns-then-not-is_finished-clause-ended
-returns-then-not-is_finished-clause-ended g c = λ b at. same_picture g.M.PassMachine.drawing (IsDrawnBySome g.M.PassMachine) g.met.M.PassMachine.shows_whole (input_scene c.args.input.now) c.args.input.now.settings
+returns-then-not-is_finished-clause-ended g c =
+    λ number v b at. same_picture g.M.PassMachine.drawing (IsDrawnBySome g.M.PassMachine) g.met.M.PassMachine.shows_whole
+    (input_scene c.args.input.now)
+    c.args.input.now.settings
     c.args.input.now.mode b.known (names_of c.args.input.now.names)
-    c.args.number c.args.passed b.first (g.M.PassMachine.state c.args.machine.now) c.args.recency.now
+    number c.args.passed b.first (g.M.PassMachine.state c.args.machine.now) v
     (walk_state g.D.Folder c.args.input.now.names.store.now c.args.folder.now (b.kept ∷ (g.M.PassMachine.state c.args.machine.now).files)
     (g.O.Sink.held c.args.out.now) (g.O.Sink.faults c.args.out.now))
     at c.requires.goes_on.none_lost (room_left c.args.input.now c.args.passed c.requires.input c.requires.goes_on)
@@ -22,33 +26,34 @@ returns-then-not-is_finished-clause-ended g c = λ b at. same_picture g.M.PassMa
 
 pub write_picture-requires-clause-few : goal.write_picture-requires-clause-few
 write_picture-requires-clause-few g c κs within =
-    let i = c.requires.stands.1.passed.inside in let e = c.requires.stands.1.passed.picture in let few = c.requires.input.pictures in omega (arith, i, e, few)
+    let i = c.requires.stands.3.passed.inside in let e = c.requires.stands.3.passed.picture in
+    let few = c.requires.input.pictures in omega (arith, i, e, few)
 
 pub write_picture-requires-clause-count : goal.write_picture-requires-clause-count
 write_picture-requires-clause-count g c κs within = rows_count g.M.PassMachine.drawing
     (IsDrawnBySome g.M.PassMachine) g.met.M.PassMachine.shows_whole (input_scene c.args.input.now) c.args.input.now.settings c.args.input.now.mode
-    c.requires.stands.0.known (names_of c.args.input.now.names)
-    c.args.number c.args.passed c.requires.stands.0.first (g.M.PassMachine.state c.args.machine.now) c.args.recency.now
+    c.requires.stands.2.known (names_of c.args.input.now.names)
+    c.requires.stands.0 c.args.passed c.requires.stands.2.first (g.M.PassMachine.state c.args.machine.now) c.requires.stands.1
     (walk_state g.D.Folder c.args.input.now.names.store.now c.args.folder.now
-    (c.requires.stands.0.kept ∷ (g.M.PassMachine.state c.args.machine.now).files) (g.O.Sink.held c.args.out.now) (g.O.Sink.faults c.args.out.now))
-    c.requires.stands.1
+    (c.requires.stands.2.kept ∷ (g.M.PassMachine.state c.args.machine.now).files) (g.O.Sink.held c.args.out.now) (g.O.Sink.faults c.args.out.now))
+    c.requires.stands.3
 
 pub write_picture-requires-clause-full : goal.write_picture-requires-clause-full
 write_picture-requires-clause-full g c κs within = rows_full g.M.PassMachine.drawing
     (IsDrawnBySome g.M.PassMachine) g.met.M.PassMachine.shows_whole (input_scene c.args.input.now) c.args.input.now.settings c.args.input.now.mode
-    c.requires.stands.0.known (names_of c.args.input.now.names)
-    c.args.number c.args.passed c.requires.stands.0.first (g.M.PassMachine.state c.args.machine.now) c.args.recency.now
+    c.requires.stands.2.known (names_of c.args.input.now.names)
+    c.requires.stands.0 c.args.passed c.requires.stands.2.first (g.M.PassMachine.state c.args.machine.now) c.requires.stands.1
     (walk_state g.D.Folder c.args.input.now.names.store.now c.args.folder.now
-    (c.requires.stands.0.kept ∷ (g.M.PassMachine.state c.args.machine.now).files) (g.O.Sink.held c.args.out.now) (g.O.Sink.faults c.args.out.now))
-    c.requires.stands.1
+    (c.requires.stands.2.kept ∷ (g.M.PassMachine.state c.args.machine.now).files) (g.O.Sink.held c.args.out.now) (g.O.Sink.faults c.args.out.now))
+    c.requires.stands.3
 
 pub returns-in_err-write_picture-clause-ended : goal.returns-in_err-write_picture-clause-ended
 returns-in_err-write_picture-clause-ended g c =
     let p = err_from_is_err_and c.from_residual.result c.from_residual.ensures.1 in
-    λ b at. rw p.1 (picture_broke g.M.PassMachine.drawing
+    λ number v b at. rw p.1 (picture_broke g.M.PassMachine.drawing
     (IsDrawnBySome g.M.PassMachine) g.met.M.PassMachine.shows_whole (input_scene c.args.input.now) c.args.input.now.settings
     c.args.input.now.mode b.known (names_of c.args.input.now.names)
-    c.args.number c.args.passed b.first (g.M.PassMachine.state c.args.machine.now) c.args.recency.now c.args.input.now.names.store.now b.kept
+    number c.args.passed b.first (g.M.PassMachine.state c.args.machine.now) v c.args.input.now.names.store.now b.kept
     (g.D.Folder.files c.args.folder.now) (g.D.Folder.files c.write_picture.new.folder)
     (g.D.Folder.asked c.args.folder.now) (g.D.Folder.asked c.write_picture.new.folder) (g.D.Folder.faults c.args.folder.now)
     (g.D.Folder.faults c.write_picture.new.folder)
@@ -63,10 +68,10 @@ returns-in_err-write_picture-clause-ended g c =
 pub returns-in_err-put_picture_line-clause-ended : goal.returns-in_err-put_picture_line-clause-ended
 returns-in_err-put_picture_line-clause-ended g c =
     let p = err_from_is_err_and c.from_residual-in_err-put_picture_line.result c.from_residual-in_err-put_picture_line.ensures.1 in
-    λ b at. rw p.1 (line_broke g.M.PassMachine.drawing
+    λ number v b at. rw p.1 (line_broke g.M.PassMachine.drawing
     (IsDrawnBySome g.M.PassMachine) g.met.M.PassMachine.shows_whole (input_scene c.args.input.now) c.args.input.now.settings
     c.args.input.now.mode b.known (names_of c.args.input.now.names)
-    c.args.number c.args.passed b.first (g.M.PassMachine.state c.args.machine.now) c.args.recency.now c.args.input.now.names.store.now b.kept
+    number c.args.passed b.first (g.M.PassMachine.state c.args.machine.now) v c.args.input.now.names.store.now b.kept
     (g.D.Folder.files c.args.folder.now) (g.D.Folder.files c.write_picture.new.folder)
     (g.D.Folder.asked c.args.folder.now) (g.D.Folder.asked c.write_picture.new.folder) (g.D.Folder.faults c.args.folder.now)
     (g.D.Folder.faults c.write_picture.new.folder)
@@ -80,13 +85,14 @@ returns-in_err-put_picture_line-clause-ended g c =
 
 pub overflow_add-result : goal.overflow_add-result
 overflow_add-result g c =
-    let i = c.requires.stands.1.passed.inside in let e = c.requires.stands.1.passed.picture in let few = c.requires.input.pictures in omega (arith, i, e, few)
+    let i = c.requires.stands.3.passed.inside in let e = c.requires.stands.3.passed.picture in
+    let few = c.requires.input.pictures in omega (arith, i, e, few)
 
 pub returns-clause-ended : goal.returns-clause-ended
-returns-clause-ended g c = λ b at. next_picture g.M.PassMachine.drawing
+returns-clause-ended g c = λ number v b at. next_picture g.M.PassMachine.drawing
     (IsDrawnBySome g.M.PassMachine) g.met.M.PassMachine.shows_whole (input_scene c.args.input.now) c.args.input.now.settings c.args.input.now.mode
     b.known (names_of c.args.input.now.names)
-    c.args.number c.args.passed b.first (g.M.PassMachine.state c.args.machine.now) c.args.recency.now c.args.input.now.names.store.now b.kept
+    number c.args.passed b.first (g.M.PassMachine.state c.args.machine.now) v c.args.input.now.names.store.now b.kept
     (g.D.Folder.files c.args.folder.now) (g.D.Folder.files c.write_picture.new.folder)
     (g.D.Folder.asked c.args.folder.now) (g.D.Folder.asked c.write_picture.new.folder) (g.D.Folder.faults c.args.folder.now)
     (g.D.Folder.faults c.write_picture.new.folder)
@@ -99,12 +105,7 @@ returns-clause-ended g c = λ b at. next_picture g.M.PassMachine.drawing
     c.in_ok-put_picture_line.ensures.faults c.new.result c.new.ensures
 
 pub returns-then-not-is_finished-clause-kept : goal.returns-then-not-is_finished-clause-kept
-returns-then-not-is_finished-clause-kept g c = record {
-  same = record { names = refl; all_known = refl };
-  asked = refl;
-  faults = omega arith;
-  out_faults = omega arith;
-}
+returns-then-not-is_finished-clause-kept g c = kept_here _
 
 pub returns-in_err-write_picture-clause-kept : goal.returns-in_err-write_picture-clause-kept
 returns-in_err-write_picture-clause-kept g c = record {

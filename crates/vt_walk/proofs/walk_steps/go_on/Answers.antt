@@ -1,4 +1,4 @@
-use Rattle.std.proofs.Common.{◌+◌, ◌∷◌, Bool, refl, sym, subst}
+use Rattle.std.proofs.Common.{◌+◌, ◌∷◌, Bool, sym, subst}
 use Rattle.std.specs.Prelude.{MatchBool}
 use Rattle.std.proofs.lemmas.Result.{err_from_is_err_and}
 use Rattle.vt_walk_decisions.specs.Judging.{IsFollowed}
@@ -18,7 +18,7 @@ draw_beside-requires-clause-followed g c κs within = subst (λ (b : Bool). Matc
 pub draw_next-requires-clause-may : goal.draw_next-requires-clause-may
 draw_next-requires-clause-may g c κs within =
     let b = c.requires.stands.0 in
-    let s = c.in_ok-step.ensures.ended b c.requires.stands.1 in (
+    let s = c.in_ok-step.ensures.ended c.args.number c.args.recency.now b c.requires.stands.1 in (
       b.known,
       s.run,
       may_turn (IsDrawnBySome g.M.PassMachine) (given_of g.M.PassMachine.drawing c.args.input.now b.known) b.first (c.args.number + 1)
@@ -33,7 +33,8 @@ returns-in_err-step-clause-taken g c =
     λ b at. rw p.1 (subst (LeftByRefusal (IsDrawnBySome g.M.PassMachine)
     (given_of g.M.PassMachine.drawing c.args.input.now b.known) b.first
     (walk_state g.D.Folder c.args.input.now.names.store.now c.end_step.new.folder (b.kept ∷ (g.M.PassMachine.state c.args.machine.now).files)
-    (g.O.Sink.held c.end_step.new.out) (g.O.Sink.faults c.end_step.new.out))) (sym p.2) (c.in_err-step.ensures.ended b at))
+    (g.O.Sink.held c.end_step.new.out) (g.O.Sink.faults c.end_step.new.out))) (sym p.2)
+    (c.in_err-step.ensures.ended c.args.number c.args.recency.now b at))
 
 pub returns-in_err-next-clause-taken : goal.returns-in_err-next-clause-taken
 returns-in_err-next-clause-taken g c =
@@ -42,11 +43,11 @@ returns-in_err-next-clause-taken g c =
     c.in_ok-step.step b.first c.args.input.now.names.store.now b.kept (g.O.Sink.held c.end_step.new.out) (g.O.Sink.faults c.end_step.new.out)
     (g.D.Folder.files c.end_step.new.folder) (g.D.Folder.asked c.end_step.new.folder) (g.D.Folder.faults c.end_step.new.folder)
     (g.M.PassMachine.state c.args.machine.now) (g.M.PassMachine.state c.draw_next.new.machine) c.args.recency.now c.draw_next.new.recency
-    (c.in_ok-step.ensures.ended b at) c.in_err-next.ensures.more c.in_err-next.ensures.refused p.0 p.2)
+    (c.in_ok-step.ensures.ended c.args.number c.args.recency.now b at) c.in_err-next.ensures.more c.in_err-next.ensures.refused p.0 p.2)
 
 pub returns-clause-taken : goal.returns-clause-taken
 returns-clause-taken g c = λ b at.
-    let s = c.in_ok-step.ensures.ended b at in
+    let s = c.in_ok-step.ensures.ended c.args.number c.args.recency.now b at in
     let now = walk_state g.D.Folder c.args.input.now.names.store.now c.end_step.new.folder (b.kept ∷ (g.M.PassMachine.state c.args.machine.now).files)
     (g.O.Sink.held c.end_step.new.out) (g.O.Sink.faults c.end_step.new.out) in
     next_stands (IsDrawnBySome g.M.PassMachine) (given_of g.M.PassMachine.drawing c.args.input.now b.known) b.first (c.args.number + 1)
@@ -57,12 +58,7 @@ returns-clause-taken g c = λ b at.
     c.in_ok-step.step now (g.M.PassMachine.state c.args.machine.now) c.args.recency.now s))
 
 pub returns-in_err-step-clause-kept : goal.returns-in_err-step-clause-kept
-returns-in_err-step-clause-kept g c = record {
-  same = record { names = refl; all_known = refl };
-  asked = c.end_step.ensures.kept.asked;
-  faults = c.end_step.ensures.kept.faults;
-  out_faults = c.end_step.ensures.kept.out_faults;
-}
+returns-in_err-step-clause-kept g c = c.end_step.ensures.kept
 
 pub returns-in_err-next-clause-kept : goal.returns-in_err-next-clause-kept
 returns-in_err-next-clause-kept g c = record {
@@ -79,3 +75,6 @@ returns-clause-kept g c = record {
   faults = c.end_step.ensures.kept.faults;
   out_faults = c.end_step.ensures.kept.out_faults;
 }
+
+pub end_step-requires-clause-stands : goal.end_step-requires-clause-stands
+end_step-requires-clause-stands g c κs within = (c.args.number, c.args.recency.now, c.requires.stands.0, c.requires.stands.1)
