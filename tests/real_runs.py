@@ -90,6 +90,18 @@ row 0 0 3
 # The same, where the row of its third pass shows the page that is mapped in it; and without the map that makes version 3.
 LAST_SHOWN = SETTLED_PASSES.replace(b"row 0 0 2", b"row 0 0 3")
 BROKEN = SETTLED_PASSES.replace(b"map 3 0 0 1 2\n", b"")
+# That again, where the row of the second pass shows the page that is mapped in it.
+UNCHANGED = b"""map 1 1 0 0 0
+pass 1 picture 0 start 1
+row 0 0 1
+pass 2 picture 0 start 1
+map 2 0 0 0 1
+row 0 0 2
+pass 3 picture 0 start 2
+row 0 0 2
+pass 4 picture 0 start 3
+row 0 0 3
+"""
 
 # The journal of the walk that lost a tile, by the versions of its second and of its fourth row.
 LOST = b"""map 1 1 0 0 0
@@ -111,6 +123,18 @@ row 0 0 %d
 # A journal that maps a page to the last frame, and the store of a texture of 32x16 texels for tiles of 16x16, each of one colour.
 LAST_FRAME = b"map 1 1 0 0 0\npass 1 picture 0 start 1\nmap 2 0 0 0 65534\nrow 0 0 2\n"
 THREE_COLOURS = b"VTS1\0\0\0\x20\0\0\0\x10\0\0\0\x10" + b"".join(bytes([colour] * 768) for colour in (0x11, 0x22, 0x33))
+
+# Where the first of these ends after its head and after each of its passes.
+ENDS = {14: 0, 49: 1, 112: 2, 147: 3, 223: 4}
+
+
+def front(end):
+    """A replay of the front of that journal which ends there: it is refused where it ends elsewhere."""
+    text = (LOST % (1, 3))[:end]
+    if end in ENDS:
+        return replayed(text, *[LOW, LOW, FAR, FAR][: ENDS[end]], path=FOUR)
+    return refused(replayed(text, path=FOUR), 4, b"vtex: bad input: j.txt: bad line %d\n" % (text.count(b"\n") + 1))
+
 
 # Half a texel to the right of texel (1, 0) and a quarter of one down, so the texels 1, 2, 5 and 6 have the weights 24576, 24576, 8192 and 8192; and
 # half a texel to the right of texel (3, 3) and three quarters down, where the texels 15, 12, 3 and 0 have the weights 8192, 8192, 24576 and 24576.
@@ -408,6 +432,8 @@ RUNS = [
     ("the head alone", replayed(b"map 1 1 0 0 0\n")),
     *[("%d lines of a journal" % lines, cut(lines)) for lines in (2, 4, 5, 7, 8, 10)],
     *[("%d lines of a journal" % lines, cut(lines, picture)) for lines, picture in [(3, LOW), (6, LOW), (9, WITH_PAGE_0), (11, PICTURE)]],
+    *[("%d bytes of a journal" % end, front(end)) for end in range(224)],
+    ("a journal without one of its changes", refused(replayed(UNCHANGED), 4, b"vtex: bad input: j.txt: bad line 9\n")),
     ("the lost tile, at 1 and 3", replayed(LOST % (1, 3), LOW, LOW, FAR, FAR, path=FOUR)),
     ("the lost tile, at 2 and 4", replayed(LOST % (2, 4), LOW, WITH_PAGE_0, FAR, FAR, path=FOUR)),
     ("the lost tile, at 3 and 5", replayed(LOST % (3, 5), LOW, PICTURE, FAR, FAR_WITH_PAGE_3, path=FOUR)),
@@ -537,3 +563,79 @@ FLIGHTS = [FLIGHT, FLIGHT._replace(words=FLIGHT.words + " --table swap")]
 TOUR = b"size 64 48\nfocal 48\nat 65536 65536 16384 16384 0\nto 2 90000 50000 40960 11585 11585\n"
 ALONE = "walk s.vts a.path f --frames 100 --samplers 1 --loaders 1 --batch 8 --settled"
 MANY = "walk s.vts a.path f --frames 100 --samplers 7 --loaders 3 --batch 8 --settled"
+
+# The walk of trial 7: 60 pictures along a texture of 2048 texels a side. The first pictures are those of the walk, the next the plain ones, the last
+# those of its journal. The log is that of the lists of pages, by `trial` of walks.py.
+FAR_PATH = b"size 320 200\nfocal 100\nat 1792 0 204800 16384 0\nto 59 263936 0 204800 16384 0\n"
+FAR_RUNS = [
+    "gen 7 2048 2048 t.ppm",
+    "tile t.ppm s.vts --tile 64",
+    "walk s.vts a.path f --frames 64 --samplers 4 --loaders 3 --batch 16 --journal j.txt --settled",
+    "plain t.ppm a.path p --tile 64",
+    "replay s.vts a.path j.txt r",
+]
+FAR_PRINTED = b"""store 2048 2048 tile 64 levels 6 pages 1365 bytes 16773136
+picture 0 passes 6 wanted 41 loaded 44 lost 0 evicted 0
+picture 1 passes 1 wanted 41 loaded 0 lost 0 evicted 0
+picture 2 passes 1 wanted 39 loaded 0 lost 0 evicted 0
+picture 3 passes 1 wanted 39 loaded 0 lost 0 evicted 0
+picture 4 passes 1 wanted 39 loaded 0 lost 0 evicted 0
+picture 5 passes 1 wanted 39 loaded 0 lost 0 evicted 0
+picture 6 passes 1 wanted 39 loaded 0 lost 0 evicted 0
+picture 7 passes 1 wanted 33 loaded 0 lost 0 evicted 0
+picture 8 passes 1 wanted 33 loaded 0 lost 0 evicted 0
+picture 9 passes 1 wanted 33 loaded 0 lost 0 evicted 0
+picture 10 passes 1 wanted 33 loaded 0 lost 0 evicted 0
+picture 11 passes 1 wanted 33 loaded 0 lost 0 evicted 0
+picture 12 passes 1 wanted 33 loaded 0 lost 0 evicted 0
+picture 13 passes 3 wanted 37 loaded 8 lost 0 evicted 0
+picture 14 passes 1 wanted 37 loaded 0 lost 0 evicted 0
+picture 15 passes 1 wanted 37 loaded 0 lost 0 evicted 0
+picture 16 passes 1 wanted 37 loaded 0 lost 0 evicted 0
+picture 17 passes 1 wanted 35 loaded 0 lost 0 evicted 0
+picture 18 passes 1 wanted 35 loaded 0 lost 0 evicted 0
+picture 19 passes 1 wanted 35 loaded 0 lost 0 evicted 0
+picture 20 passes 1 wanted 35 loaded 0 lost 0 evicted 0
+picture 21 passes 1 wanted 29 loaded 0 lost 0 evicted 0
+picture 22 passes 1 wanted 29 loaded 0 lost 0 evicted 0
+picture 23 passes 1 wanted 29 loaded 0 lost 0 evicted 0
+picture 24 passes 1 wanted 29 loaded 0 lost 0 evicted 0
+picture 25 passes 1 wanted 29 loaded 0 lost 0 evicted 0
+picture 26 passes 1 wanted 29 loaded 0 lost 0 evicted 0
+picture 27 passes 1 wanted 29 loaded 0 lost 0 evicted 0
+picture 28 passes 3 wanted 41 loaded 8 lost 0 evicted 0
+picture 29 passes 1 wanted 41 loaded 0 lost 0 evicted 0
+picture 30 passes 1 wanted 41 loaded 0 lost 0 evicted 0
+picture 31 passes 1 wanted 39 loaded 0 lost 0 evicted 0
+picture 32 passes 1 wanted 39 loaded 0 lost 0 evicted 0
+picture 33 passes 1 wanted 39 loaded 0 lost 0 evicted 0
+picture 34 passes 1 wanted 39 loaded 0 lost 0 evicted 0
+picture 35 passes 1 wanted 39 loaded 0 lost 0 evicted 0
+picture 36 passes 1 wanted 33 loaded 0 lost 0 evicted 0
+picture 37 passes 1 wanted 33 loaded 0 lost 0 evicted 0
+picture 38 passes 1 wanted 33 loaded 0 lost 0 evicted 0
+picture 39 passes 1 wanted 33 loaded 0 lost 0 evicted 0
+picture 40 passes 1 wanted 33 loaded 0 lost 0 evicted 0
+picture 41 passes 1 wanted 33 loaded 0 lost 0 evicted 0
+picture 42 passes 1 wanted 33 loaded 0 lost 0 evicted 0
+picture 43 passes 3 wanted 37 loaded 8 lost 0 evicted 5
+picture 44 passes 1 wanted 37 loaded 0 lost 0 evicted 0
+picture 45 passes 1 wanted 37 loaded 0 lost 0 evicted 0
+picture 46 passes 1 wanted 35 loaded 0 lost 0 evicted 0
+picture 47 passes 1 wanted 35 loaded 0 lost 0 evicted 0
+picture 48 passes 1 wanted 35 loaded 0 lost 0 evicted 0
+picture 49 passes 1 wanted 35 loaded 0 lost 0 evicted 0
+picture 50 passes 1 wanted 35 loaded 0 lost 0 evicted 0
+picture 51 passes 1 wanted 29 loaded 0 lost 0 evicted 0
+picture 52 passes 1 wanted 29 loaded 0 lost 0 evicted 0
+picture 53 passes 1 wanted 29 loaded 0 lost 0 evicted 0
+picture 54 passes 1 wanted 29 loaded 0 lost 0 evicted 0
+picture 55 passes 1 wanted 29 loaded 0 lost 0 evicted 0
+picture 56 passes 1 wanted 29 loaded 0 lost 0 evicted 0
+picture 57 passes 1 wanted 33 loaded 0 lost 0 evicted 0
+picture 58 passes 3 wanted 41 loaded 8 lost 0 evicted 8
+picture 59 passes 1 wanted 41 loaded 0 lost 0 evicted 0
+end pictures 60 reads 77
+end pictures 60
+end pictures 60
+"""

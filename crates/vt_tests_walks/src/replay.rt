@@ -2,14 +2,14 @@
 
 use crate::cases::{Case, Deed, check};
 use crate::fixtures::{
-    FAR, FINE, FOUR, FOUR_PICTURES, HEADER, LOW, ONE_PICTURE, ROOT_TILE, TILE_0, TILE_2, TILE_3,
-    open_store, pictures_stand,
+    FAR, FINE, FOUR, FOUR_PICTURES, HEADER, LOW, ROOT_TILE, TILE_0, TILE_2, TILE_3, open_store,
+    pictures_stand,
 };
 use std::alloc::Global;
 use std::process::Abort;
 use std::thread::Threads;
 use vt_camera::Path;
-use vt_outside::{MemoryFolder, NoMemory, Place};
+use vt_outside::{MemoryFolder, Place};
 use vt_replay::replay;
 
 /// A replay of a journal, and what is to be there after it.
@@ -55,7 +55,7 @@ const WITH_PAGE_0: &[u8] = b"P6\n2 1\n255\n\x0b\x0b\x0b\x01\x01\x01";
 // The fourth picture of the walk that lost a tile, at the version 5: page 3 is mapped.
 const FAR_WITH_PAGE_3: &[u8] = b"P6\n2 1\n255\n\x0f\x0f\x0f\x05\x05\x05";
 
-// The replays of the walk that lost a tile, by the versions of the second and of the fourth row, which are three each.
+// Replays of the walk that lost a tile, by the versions of the second and of the fourth row.
 const AT_1_AND_3: Replay<'_> = Replay {
     journal: b"map 1 1 0 0 0\npass 1 picture 0 start 1\nrow 0 0 1\npass 2 picture 1 start 1\nmap 2 0 0 0 1\n\
         map 3 0 0 1 2\nrow 0 0 1\npass 3 picture 2 start 3\nrow 0 0 3\npass 4 picture 3 start 3\n\
@@ -72,30 +72,6 @@ const AT_3_AND_5: Replay<'_> = Replay {
     ..AT_1_AND_3
 };
 
-const AT_2_AND_4: Replay<'_> = Replay {
-    journal: b"map 1 1 0 0 0\npass 1 picture 0 start 1\nrow 0 0 1\npass 2 picture 1 start 1\nmap 2 0 0 0 1\n\
-        map 3 0 0 1 2\nrow 0 0 2\npass 3 picture 2 start 3\nrow 0 0 3\npass 4 picture 3 start 3\n\
-        lost 0 1 0\nunmap 4 0 0 0 1\nmap 5 0 1 1 1\nrow 0 0 4\n",
-    pictures: &[LOW, WITH_PAGE_0, FAR, FAR],
-    ..AT_1_AND_3
-};
-
-const AT_1_AND_5: Replay<'_> = Replay {
-    journal: b"map 1 1 0 0 0\npass 1 picture 0 start 1\nrow 0 0 1\npass 2 picture 1 start 1\nmap 2 0 0 0 1\n\
-        map 3 0 0 1 2\nrow 0 0 1\npass 3 picture 2 start 3\nrow 0 0 3\npass 4 picture 3 start 3\n\
-        lost 0 1 0\nunmap 4 0 0 0 1\nmap 5 0 1 1 1\nrow 0 0 5\n",
-    pictures: &[LOW, LOW, FAR, FAR_WITH_PAGE_3],
-    ..AT_1_AND_3
-};
-
-const AT_3_AND_3: Replay<'_> = Replay {
-    journal: b"map 1 1 0 0 0\npass 1 picture 0 start 1\nrow 0 0 1\npass 2 picture 1 start 1\nmap 2 0 0 0 1\n\
-        map 3 0 0 1 2\nrow 0 0 3\npass 3 picture 2 start 3\nrow 0 0 3\npass 4 picture 3 start 3\n\
-        lost 0 1 0\nunmap 4 0 0 0 1\nmap 5 0 1 1 1\nrow 0 0 3\n",
-    pictures: &[LOW, FINE, FAR, FAR],
-    ..AT_1_AND_3
-};
-
 // A replay along the path of that walk.
 const LOST_TILE: Case<'_> = Case {
     store: &FOUR,
@@ -103,31 +79,6 @@ const LOST_TILE: Case<'_> = Case {
     fails: &[],
     deed: Deed::Replay(AT_1_AND_3),
 };
-
-static VERSIONS: [Case<'static>; 5] = [
-    LOST_TILE,
-    Case {
-        deed: Deed::Replay(AT_2_AND_4),
-        ..LOST_TILE
-    },
-    Case {
-        deed: Deed::Replay(AT_3_AND_5),
-        ..LOST_TILE
-    },
-    Case {
-        deed: Deed::Replay(AT_1_AND_5),
-        ..LOST_TILE
-    },
-    Case {
-        deed: Deed::Replay(AT_3_AND_3),
-        ..LOST_TILE
-    },
-];
-
-#[test]
-fn the_walk_that_lost_a_tile_is_replayed_at_the_versions_of_its_rows(rt: HostRuntime) {
-    check(&rt, rt.alloc(), &VERSIONS);
-}
 
 static FIRST_NEEDS: [Case<'static>; 2] = [
     Case {
@@ -175,41 +126,4 @@ static THREE_FROM_ONE_PLACE: [Case<'static>; 1] = [Case {
 #[test]
 fn a_tile_that_was_put_out_is_read_again(rt: HostRuntime) {
     check(&rt, rt.alloc(), &THREE_FROM_ONE_PLACE);
-}
-
-// The store of a texture of 32x16 texels for tiles of 16x16, of which each tile has one colour.
-fn wide_store(alloc: Global) -> Result<Vec<u8>, NoMemory> {
-    let mut store = Vec::new(alloc);
-    store.extend_from_slice(b"VTS1\x00\x00\x00\x20\x00\x00\x00\x10\x00\x00\x00\x10".as_slice())?;
-    for colour in [0x11, 0x22, 0x33] {
-        store.extend_from_slice(&[colour; 768])?;
-    }
-    Ok(store)
-}
-
-// A replay of a journal that names the last frame that there may be: as many tiles of that side have twice the texels that a
-// walk's frames may have.
-const FAR_FRAME: Case<'_> = Case {
-    store: &[],
-    path: ONE_PICTURE,
-    fails: &[],
-    deed: Deed::Replay(Replay {
-        journal: b"map 1 1 0 0 0\npass 1 picture 0 start 1\nmap 2 0 0 0 65534\nrow 0 0 2\n",
-        pictures: &[b"P6\n2 1\n255\n\x11\x11\x11\x11\x11\x11"],
-        asked: None,
-    }),
-};
-
-#[test]
-fn a_frame_has_no_room_of_its_own(rt: HostRuntime) {
-    match wide_store(rt.alloc()) {
-        Ok(store) => {
-            let case = Case {
-                store: store.as_slice(),
-                ..FAR_FRAME
-            };
-            check(&rt, rt.alloc(), &[case]);
-        }
-        Err(_) => assert!(rt; false, "there is memory"),
-    }
 }

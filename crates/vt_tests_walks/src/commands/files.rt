@@ -26,9 +26,5 @@ pub const WIDE_STORE: &[u8] = b"VTS2\x00\x00\x00\x04\x00\x00\x00\x04\x00\x00\x00
         \x0a\x0a\x0a\x0a\x0a\x0a\x0b\x0b\x0b\x0b\x0b\x0b\x0e\x0e\x0e\x0e\x0e\x0e\x0f\x0f\x0f\x0f\x0f\x0f\
         \x03\x03\x03\x03\x03\x03\x05\x05\x05\x05\x05\x05\x0b\x0b\x0b\x0b\x0b\x0b\x0d\x0d\x0d\x0d\x0d\x0d";
 
-/// The line that words of no command are answered with.
-pub const USAGE: &[u8] =
-    b"vtex: usage: vtex COMMAND ARGUMENTS (plain, tile, info, walk, replay, gen, trial, upgrade)\n";
-
 /// The line of a failed call or a missing name.
 pub const FAULT: &[u8] = b"vtex: fault on files or output\n";

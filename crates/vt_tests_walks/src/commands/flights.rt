@@ -1,7 +1,6 @@
 // Walks whose journals are replayed.
 use super::gates::{Meeting, Meetings};
-use super::replay_rows::REPLAY;
-use super::rows::{Held, PICTURES, Row, adds, leaves_in, stands_beside};
+use super::rows::{Held, PICTURES, Row, adds, stands_beside};
 use super::runs::{Scene, play};
 use crate::told::Told;
 use std::alloc::Global;
@@ -68,24 +67,6 @@ fn is_replayed(
         && play(rt, alloc, words, &mut scene) == 0
         && scene.printed(end_of(pictures), b"")
         && have_same_pictures(walked, &scene)
-}
-
-// A walk leaves what its row says, and its journal is replayed to its pictures.
-fn walks(rt: &(impl Threads + Wait + Sync), alloc: Global, row: &Row<'_>) -> bool {
-    match Scene::failing(alloc, row.fail, row.err_fail) {
-        Ok(mut scene) => {
-            leaves_in(rt, alloc, row, &mut scene)
-                && is_replayed(rt, alloc, REPLAY, row, row.pictures.len(), &scene)
-        }
-        Err(_) => false,
-    }
-}
-
-/// Each walk leaves what its row says, and its journal is replayed to its pictures.
-pub(super) fn walk_all(rt: &(impl Abort + Threads + Wait + Sync), alloc: Global, rows: &[Row<'_>]) {
-    for i in 0..rows.len() {
-        assert!(rt; walks(rt, alloc, &rows[i]), "row {i}");
-    }
 }
 
 // What a picture holds, by the version of its row in a journal.

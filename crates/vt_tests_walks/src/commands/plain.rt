@@ -1,6 +1,5 @@
 // Runs of `plain`.
 mod strips;
-mod textures;
 
 use super::files::{FAULT, G4, PATH, PICTURE};
 use super::rows::Held::All;
@@ -38,59 +37,6 @@ const STOPS: Row<'static> = Row {
     err: FAULT,
     ..REFUSES
 };
-
-static FIRST: [Row<'static>; 1] = [DRAWS];
-
-#[test]
-fn the_first_picture_is_drawn(rt: HostRuntime) {
-    hold(&rt, rt.alloc(), &FIRST);
-}
-
-static HEIGHTS: [Row<'static>; 2] = [
-    // Higher.
-    Row {
-        files: &[
-            ("g4.ppm", All(G4)),
-            ("a.path", All(b"size 2 1\nfocal 1\nat 0 0 512 16384 0\n")),
-        ],
-        pictures: &[b"P6\n2 1\n255\n\x0d\x0d\x0d\x05\x05\x05"],
-        ..DRAWS
-    },
-    // Just lower.
-    Row {
-        files: &[
-            ("g4.ppm", All(G4)),
-            ("a.path", All(b"size 2 1\nfocal 1\nat 0 0 511 16384 0\n")),
-        ],
-        ..DRAWS
-    },
-];
-
-#[test]
-fn a_row_is_drawn_at_its_own_level(rt: HostRuntime) {
-    hold(&rt, rt.alloc(), &HEIGHTS);
-}
-
-const MOVED: &[u8] = b"P6\n2 1\n255\n\x0c\x0c\x0c\x00\x00\x00";
-
-// The places 0, -4, -7 and -10: from the second on the pixels show the column before.
-static ON_THE_WAY: [Row<'static>; 1] = [Row {
-    files: &[
-        ("g4.ppm", All(G4)),
-        (
-            "a.path",
-            All(b"size 2 1\nfocal 1\nat 0 0 256 16384 0\nto 3 -10 0 256 16384 0\n"),
-        ),
-    ],
-    pictures: &[PICTURE, MOVED, MOVED, MOVED],
-    out: b"end pictures 4\n",
-    ..DRAWS
-}];
-
-#[test]
-fn pictures_on_the_way_are_drawn(rt: HostRuntime) {
-    hold(&rt, rt.alloc(), &ON_THE_WAY);
-}
 
 static STOPPED: [Row<'static>; 12] = [
     Row {

@@ -1,9 +1,8 @@
 // Runs of `replay`.
-use super::files::{FAULT, G4_STORE, PATH, PICTURE, WIDE_STORE};
+use super::files::{FAULT, G4_STORE, PATH, PICTURE};
 use super::replay_rows::{REPLAY_REFUSES, REPLAYS};
 use super::rows::Held::All;
 use super::rows::{Held, Row, hold};
-use super::walk_rows::WIDE_PICTURE;
 use std::test::*;
 use vt_outside::Fail;
 
@@ -13,54 +12,12 @@ const SETTLED: &[u8] =
         map 2 0 0 0 1\nrow 0 0 1\npass 3 picture 0 start 2\nmap 3 0 0 1 2\nrow 0 0 3\n\
         pass 4 picture 0 start 3\nrow 0 0 3\n";
 
-// The walk's journal without the map that makes version 3, at whose row it breaks: line 9 names a version that is not there.
-const BROKEN: &[u8] =
-    b"map 1 1 0 0 0\npass 1 picture 0 start 1\nrow 0 0 1\npass 2 picture 0 start 1\n\
-        map 2 0 0 0 1\nrow 0 0 1\npass 3 picture 0 start 2\nrow 0 0 2\n\
-        pass 4 picture 0 start 3\nrow 0 0 3\n";
-
 // The store of 4x4 texels, its path and the settled walk's journal.
 const OVER_SETTLED: &[(&str, Held<'static>)] = &[
     ("s.vts", All(G4_STORE)),
     ("a.path", All(PATH)),
     ("j.txt", All(SETTLED)),
 ];
-
-static BOTH_DEPTHS: [Row<'static>; 2] = [
-    Row {
-        files: OVER_SETTLED,
-        ..REPLAYS
-    },
-    Row {
-        files: &[
-            ("s.vts", All(WIDE_STORE)),
-            ("a.path", All(PATH)),
-            ("j.txt", All(SETTLED)),
-        ],
-        pictures: &[WIDE_PICTURE],
-        ..REPLAYS
-    },
-];
-
-#[test]
-fn a_journal_is_replayed_at_both_depths(rt: HostRuntime) {
-    hold(&rt, rt.alloc(), &BOTH_DEPTHS);
-}
-
-static REFUSED: [Row<'static>; 1] = [Row {
-    files: &[
-        ("s.vts", All(G4_STORE)),
-        ("a.path", All(PATH)),
-        ("j.txt", All(BROKEN)),
-    ],
-    err: b"vtex: bad input: j.txt: bad line 9\n",
-    ..REPLAY_REFUSES
-}];
-
-#[test]
-fn a_journal_that_names_a_version_which_is_not_there_is_refused(rt: HostRuntime) {
-    hold(&rt, rt.alloc(), &REFUSED);
-}
 
 // A second creation would fail.
 static CREATED_ONCE: [Row<'static>; 1] = [Row {

@@ -1,5 +1,5 @@
 // Runs of `trial`.
-use super::files::{FAULT, G4, PATH, USAGE};
+use super::files::{FAULT, G4, PATH};
 use super::rows::Held::All;
 use super::rows::{Row, hold};
 use std::test::*;
@@ -40,18 +40,4 @@ static REFUSED_LINE: [Row<'static>; 1] = [Row {
 #[test]
 fn a_trial_whose_line_is_refused_is_a_fault(rt: HostRuntime) {
     hold(&rt, rt.alloc(), &REFUSED_LINE);
-}
-
-static GREATER_NUMBER: [Row<'static>; 1] = [Row {
-    words: "trial 65536",
-    files: &[("g4.ppm", All(G4)), ("a.path", All(PATH))],
-    status: 2,
-    out: b"",
-    err: USAGE,
-    ..TRIES_SEVEN
-}];
-
-#[test]
-fn a_trial_has_a_number_of_sixteen_bits(rt: HostRuntime) {
-    hold(&rt, rt.alloc(), &GREATER_NUMBER);
 }

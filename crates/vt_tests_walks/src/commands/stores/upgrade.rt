@@ -2,7 +2,6 @@
 use super::super::files::{FAULT, G4_STORE, PATH, WIDE_STORE};
 use super::super::rows::Held::{All, Front};
 use super::super::rows::{Row, hold};
-use super::{G4_LINE, INFORMS};
 use std::test::*;
 use vt_outside::Fail;
 
@@ -37,33 +36,6 @@ const STOPS: Row<'static> = Row {
     err: FAULT,
     ..REFUSES
 };
-
-static UPGRADED: [Row<'static>; 3] = [
-    UPGRADES,
-    INFORMS,
-    Row {
-        files: &[("s.vts", All(WIDE_STORE)), ("a.path", All(PATH))],
-        out: WIDE_LINE,
-        ..INFORMS
-    },
-];
-
-#[test]
-fn a_store_is_upgraded(rt: HostRuntime) {
-    assert!(rt; WIDE_STORE.len() == 136);
-    hold(&rt, rt.alloc(), &UPGRADED);
-}
-
-static WRITTEN_ANEW: [Row<'static>; 1] = [Row {
-    words: "upgrade s.vts a.path",
-    left: &[("a.path", All(WIDE_STORE))],
-    ..UPGRADES
-}];
-
-#[test]
-fn a_name_that_is_there_is_written_anew(rt: HostRuntime) {
-    hold(&rt, rt.alloc(), &WRITTEN_ANEW);
-}
 
 // A run that a call stops when the new store has been created.
 const STOPS_AMID: Row<'static> = Row {
