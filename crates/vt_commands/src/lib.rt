@@ -8,5 +8,5 @@ mod waiting;
 
 pub use at_once::{may_wait, run_at_once};
 pub use command::{Command, read_command};
-pub use vt_walk_commands::{PassMachine, usage_line};
+pub use vt_walk_commands::{Machines, PassMachine, usage_line};
 pub use waiting::run_waiting;

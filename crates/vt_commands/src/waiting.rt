@@ -4,7 +4,6 @@ ghost use Rattle.std.specs.Prelude.{◌≡◌, true};
 ghost use Rattle.vt_command_words.specs.Arguments.{texts};
 ghost use Rattle.vt_commands.specs.Words.{shown_words, HasLawfulNumbers};
 ghost use Rattle.vt_command_inputs.specs.Effects.{call_effect};
-ghost use Rattle.vt_walk_commands.specs.Machines.{machines_of, kind_of};
 ghost use Rattle.vt_command_inputs.specs.CommandSpecs.{EndsBy};
 ghost use Rattle.vt_commands.specs.commands.{spec_of, EndsRun};
 ghost use Rattle.vt_commands.specs.Waits.{may_wait, MayWait};
@@ -17,14 +16,11 @@ use std::sync::Wait;
 use std::thread::Threads;
 use vt_command_inputs::{Refusal, print_end, status_of};
 use vt_outside::{Folder, Gate, Sink};
-use vt_walk_commands::{PassMachine, trial, usage_line};
+use vt_walk_commands::{Machines, trial, usage_line};
 
 /// Does what `run` does, where the words are those of a command that may wait.
 pub fn run_waiting<
-    M: PassMachine<File = D::File> + Send,
-    Swap: PassMachine<File = D::File> + Send,
-    Steal: PassMachine<File = D::File> + Send,
-    Blend: PassMachine<File = D::File> + Send,
+    Ms: Machines<D::File>,
     Rt: Threads + Wait + Sync,
     D: Folder,
     O: Sink,
@@ -40,10 +36,10 @@ pub fn run_waiting<
     gate: &G,
 ) -> u8
     requires { may_wait (texts words.now) ≡ true }
-    ensures { IsRun (run_of (machines_of (kind_of M.PassMachine) (kind_of Swap.PassMachine) (kind_of Steal.PassMachine) (kind_of Blend.PassMachine))
+    ensures { IsRun (run_of Ms.kinds
         D.Folder O.Sink E.Sink (texts words.now) folder.old folder.new out.old out.new err.old err.new) result }
 {
-    let end = do_waiting::<M, Swap, Steal, Blend, Rt, D, O, G>(rt, alloc, words, folder, out, gate);
+    let end = do_waiting::<Ms, Rt, D, O, G>(rt, alloc, words, folder, out, gate);
     print_end(&end, usage_line(), err);
     status_of(&end)
 }
@@ -51,10 +47,7 @@ pub fn run_waiting<
 // Reads the words and does the command that they ask for.
 fn do_waiting<
     'a,
-    M: PassMachine<File = D::File> + Send,
-    Swap: PassMachine<File = D::File> + Send,
-    Steal: PassMachine<File = D::File> + Send,
-    Blend: PassMachine<File = D::File> + Send,
+    Ms: Machines<D::File>,
     Rt: Threads + Wait + Sync,
     D: Folder,
     O: Sink,
@@ -68,20 +61,17 @@ fn do_waiting<
     gate: &G,
 ) -> Result<(), Refusal<'a>>
     requires { may_wait (texts words.now) ≡ true }
-    ensures { EndsRun (machines_of (kind_of M.PassMachine) (kind_of Swap.PassMachine) (kind_of Steal.PassMachine) (kind_of Blend.PassMachine))
+    ensures { EndsRun Ms.kinds
         (texts words.now) (call_effect D.Folder O.Sink folder.old folder.new out.old out.new) result }
 {
     let command = read_command(alloc, words)?;
-    perform_waiting::<M, Swap, Steal, Blend, Rt, D, O, G>(rt, alloc, &command, folder, out, gate)
+    perform_waiting::<Ms, Rt, D, O, G>(rt, alloc, &command, folder, out, gate)
 }
 
 // Does a command.
 fn perform_waiting<
     'a,
-    M: PassMachine<File = D::File> + Send,
-    Swap: PassMachine<File = D::File> + Send,
-    Steal: PassMachine<File = D::File> + Send,
-    Blend: PassMachine<File = D::File> + Send,
+    Ms: Machines<D::File>,
     Rt: Threads + Wait + Sync,
     D: Folder,
     O: Sink,
@@ -96,12 +86,12 @@ fn perform_waiting<
 ) -> Result<(), Refusal<'a>>
     requires lawful { HasLawfulNumbers command.now }
     requires waits { MayWait (shown_words command.now) }
-    ensures { EndsBy (spec_of (machines_of (kind_of M.PassMachine) (kind_of Swap.PassMachine) (kind_of Steal.PassMachine) (kind_of Blend.PassMachine))
+    ensures { EndsBy (spec_of Ms.kinds
         (shown_words command.now)) (call_effect D.Folder O.Sink folder.old folder.new out.old out.new) result }
 {
     match command {
         Command::Walk(words) => {
-            walk_chosen::<M, Swap, Steal, Blend, Rt, D, O, G>(rt, alloc, words, folder, out, gate)
+            walk_chosen::<Ms, Rt, D, O, G>(rt, alloc, words, folder, out, gate)
         }
         Command::Trial(words) => trial(rt, alloc, words, out, gate),
         Command::Store(_) | Command::Replay(_) => unreachable!(),

@@ -1,13 +1,12 @@
 //! The top call.
 
 ghost use Rattle.vt_commands.specs.Arguments.{texts};
-ghost use Rattle.vt_commands.specs.Machines.{machines_of, kind_of};
 ghost use Rattle.vt_commands.specs.Runs.{run_of, IsRun};
 
 use std::alloc::Global;
 use std::sync::Wait;
 use std::thread::Threads;
-use vt_commands::{PassMachine, may_wait, run_at_once, run_waiting};
+use vt_commands::{Machines, may_wait, run_at_once, run_waiting};
 use vt_outside::{Folder, Gate, Sink};
 
 /// Does what the words after the program's name say, and answers the status of the program: 0 where it is done, 1 for
@@ -19,18 +18,15 @@ use vt_outside::{Folder, Gate, Sink};
 /// `upgrade` reads a tile store of one-byte samples and writes the one of two-byte samples that it makes; `replay`
 /// reads a path, a store and a journal, and writes the replay of each picture of the journal; `walk` reads a path and
 /// opens a store, and writes a journal and each picture of the path as a machine draws it while it streams the tiles
-/// of the store: one of type `M`, or of type `Swap` where the words ask for the swapped table, of type `Steal` where they
-/// ask for shared rows, of type `Blend` where they ask for bilinear filtering, whichever machines these are; `trial` walks
-/// settled in memory over a texture and a path that are made from a number, and tells how many passes and reads it took.
+/// of the store: one of `Ms`, that for the swapped table, for shared rows or for bilinear filtering where the words ask for it,
+/// whichever machines these are; `trial` walks settled in memory over a texture and a path that are made from a number, and
+/// tells how many passes and reads it took.
 /// `walk` and `trial` may wait; any other words are handed to `run_at_once`.
 ///
 /// The contract is the record `IsRun` of vt_commands `specs/Runs.antt`, with a field for each promise: what was left, what was
 /// asked, the cause of each status, and the line on the error output.
 pub fn run<
-    M: PassMachine<File = D::File> + Send,
-    Swap: PassMachine<File = D::File> + Send,
-    Steal: PassMachine<File = D::File> + Send,
-    Blend: PassMachine<File = D::File> + Send,
+    Ms: Machines<D::File>,
     Rt: Threads + Wait + Sync,
     D: Folder,
     O: Sink,
@@ -45,13 +41,11 @@ pub fn run<
     err: &mut E,
     gate: &G,
 ) -> u8
-    ensures { IsRun (run_of (machines_of (kind_of M.PassMachine) (kind_of Swap.PassMachine) (kind_of Steal.PassMachine) (kind_of Blend.PassMachine))
+    ensures { IsRun (run_of Ms.kinds
         D.Folder O.Sink E.Sink (texts words.now) folder.old folder.new out.old out.new err.old err.new) result }
 {
     if may_wait(words) {
-        return run_waiting::<M, Swap, Steal, Blend, Rt, D, O, E, G>(
-            rt, alloc, words, folder, out, err, gate,
-        );
+        return run_waiting::<Ms, Rt, D, O, E, G>(rt, alloc, words, folder, out, err, gate);
     }
     run_at_once(rt, alloc, words, folder, out, err)
 }

@@ -24,7 +24,7 @@ use vt_pictures::{Filter, Nearest};
 use vt_steal::StealMachine;
 use vt_swap_machine::SwapMachine;
 pub use vt_top_call::run;
-use vt_top_call::usage_line;
+use vt_top_call::{run_by, usage_line};
 
 // The words after the program's name.
 fn words_of(rt: &HostRuntime, alloc: Global) -> io::Result<Vec<String>> {
@@ -63,7 +63,7 @@ fn run_here<Rt: Threads + Wait + Sync, D: Folder, O: Sink, E: Sink, G: Gate + Sy
         ⟦<SwapMachine<D::File> as PassMachine>⟧.drawing ⟦<StealMachine<D::File> as PassMachine>⟧.drawing
         ⟦<BlendMachine<D::File> as PassMachine>⟧.drawing }
 {
-    run::<
+    run_by::<
         WordMachine<D::File>,
         SwapMachine<D::File>,
         StealMachine<D::File>,

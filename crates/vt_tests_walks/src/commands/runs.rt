@@ -9,7 +9,7 @@ use vt_outside::{Fail, Fails, MemoryFile, MemoryFolder, MemorySink, NoMemory};
 use vt_pass::WordMachine;
 use vt_steal::StealMachine;
 use vt_swap_machine::SwapMachine;
-use vt_top_call::run;
+use vt_top_call::run_by;
 
 /// What commands run over: a folder in memory, the output and the error output, and the gate of their workers.
 #[derive(Drop)]
@@ -103,7 +103,7 @@ fn play_words(
     words: &[String],
     scene: &mut Scene,
 ) -> u8 {
-    run::<
+    run_by::<
         WordMachine<MemoryFile>,
         SwapMachine<MemoryFile>,
         StealMachine<MemoryFile>,

@@ -24,7 +24,7 @@ use Rattle.vt_command_words.specs.Walk.{WalkText}
 use Rattle.vt_walk_commands.specs.Machines.{MachineKind}
 use Rattle.vt_command_inputs.specs.Inputs.{Input, InputContent, PathInput, StoreInput, PathContent, StoreContent, header_places}
 use Rattle.vt_command_inputs.specs.Causes.{AreHeld, IsAskedOrNot, AsksSome}
-use Rattle.vt_command_inputs.specs.CommandSpecs.{CommandSpec, Conflict, FlawedBeside, ManyTexels, FewFrames, LargePicture}
+use Rattle.vt_command_inputs.specs.CommandSpecs.{CommandSpec, Conflict, EndsBy, FlawedBeside, ManyTexels, FewFrames, LargePicture}
 use Rattle.vt_command_inputs.specs.declared.refusal.Refusal.{Refusal}
 use Rattle.vt_command_inputs.specs.declared.refusal.Refusal.TheVariants.{NoMemory, Fault, TooFewFrames, DoesNotFit}
 
@@ -216,3 +216,8 @@ refusal_of_walk walks.NoMemory = NoMemory
 abbrev pub IsWalkAnswer : Result (Unit {0}) WalkError → Result (Unit {0}) Refusal → Type 0
 IsWalkAnswer (Ok u) result = result ≡ Ok u
 IsWalkAnswer (Err error) result = result ≡ Err (refusal_of_walk error)
+
+-- what ends as a walk by machines of one kind ends as one by machines of another
+abbrev pub WalksAs : MachineKind → MachineKind → Type 0
+WalksAs one other = (words : WalkText) (c : CallEffect) (result : Result (Unit {0}) Refusal)
+    → EndsBy (walk_spec one words) c result → EndsBy (walk_spec other words) c result
