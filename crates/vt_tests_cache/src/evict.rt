@@ -107,239 +107,244 @@ fn follow_all(
     true
 }
 
-// Whether these are the passes of at most `q` entries over a square texture in tiles of 2.
-fn are_passes(alloc: Global, side: u32, frames: u32, q: u32, passes: &[Pass]) -> bool
-    requires some { 1 ≤ frames }
-    requires most { frames ≤ 5 }
-{
+// Whether these are the passes of at most `q` entries over a square texture in tiles of 2, by one frame to five.
+fn are_passes(alloc: Global, side: u32, frames: u32, q: u32, passes: &[Pass]) -> bool {
     let Ok(geometry) = Geometry::new(side, side, 2) else {
         return false;
     };
+    if frames < 1 || frames > 5 {
+        return false;
+    }
     match rooted(alloc, &geometry, frames) {
         Ok(mut recency) => follow_all(alloc, &geometry, &mut recency, q, passes),
         Err(_) => false,
     }
 }
 
-#[test]
-fn a_plan_asks_for_coarse_pages_before_fine_ones(rt: HostRuntime) {
-    const PASSES: [Pass; 3] = [
-        Pass {
-            pages: &[0, 12],
-            needed: 4,
-            plan: &[
-                Planned {
-                    page: 16,
-                    frame: 1,
-                    victim: None,
-                },
-                Planned {
-                    page: 18,
-                    frame: 2,
-                    victim: None,
-                },
-            ],
-            lost: &[false, false],
-        },
-        Pass {
-            pages: &[0, 12],
-            needed: 4,
-            plan: &[
-                Planned {
-                    page: 0,
-                    frame: 3,
-                    victim: None,
-                },
-                Planned {
-                    page: 12,
-                    frame: 4,
-                    victim: None,
-                },
-            ],
-            lost: &[false, false],
-        },
-        Pass {
-            pages: &[0, 12],
-            needed: 4,
-            plan: &[],
-            lost: &[],
-        },
-    ];
-    holds(&rt, are_passes(rt.alloc(), 8, 5, 64, &PASSES));
-}
-
-#[test]
-fn a_batch_of_one_goes_down_one_line_after_the_other(rt: HostRuntime) {
-    const PASSES: [Pass; 5] = [
-        Pass {
-            pages: &[0, 12],
-            needed: 4,
-            plan: &[Planned {
+static COARSE_FIRST: [Pass; 3] = [
+    Pass {
+        pages: &[0, 12],
+        needed: 4,
+        plan: &[
+            Planned {
                 page: 16,
                 frame: 1,
                 victim: None,
-            }],
-            lost: &[false],
-        },
-        Pass {
-            pages: &[0, 12],
-            needed: 4,
-            plan: &[Planned {
-                page: 0,
+            },
+            Planned {
+                page: 18,
                 frame: 2,
                 victim: None,
-            }],
-            lost: &[false],
-        },
-        Pass {
-            pages: &[0, 12],
-            needed: 4,
-            plan: &[Planned {
-                page: 18,
+            },
+        ],
+        lost: &[false, false],
+    },
+    Pass {
+        pages: &[0, 12],
+        needed: 4,
+        plan: &[
+            Planned {
+                page: 0,
                 frame: 3,
                 victim: None,
-            }],
-            lost: &[false],
-        },
-        Pass {
-            pages: &[0, 12],
-            needed: 4,
-            plan: &[Planned {
+            },
+            Planned {
                 page: 12,
                 frame: 4,
                 victim: None,
-            }],
-            lost: &[false],
-        },
-        Pass {
-            pages: &[0, 12],
-            needed: 4,
-            plan: &[],
-            lost: &[],
-        },
-    ];
-    holds(&rt, are_passes(rt.alloc(), 8, 5, 1, &PASSES));
+            },
+        ],
+        lost: &[false, false],
+    },
+    Pass {
+        pages: &[0, 12],
+        needed: 4,
+        plan: &[],
+        lost: &[],
+    },
+];
+
+#[test]
+fn a_plan_asks_for_coarse_pages_before_fine_ones(rt: HostRuntime) {
+    holds(&rt, are_passes(rt.alloc(), 8, 5, 64, &COARSE_FIRST));
 }
+
+static LINE_BY_LINE: [Pass; 5] = [
+    Pass {
+        pages: &[0, 12],
+        needed: 4,
+        plan: &[Planned {
+            page: 16,
+            frame: 1,
+            victim: None,
+        }],
+        lost: &[false],
+    },
+    Pass {
+        pages: &[0, 12],
+        needed: 4,
+        plan: &[Planned {
+            page: 0,
+            frame: 2,
+            victim: None,
+        }],
+        lost: &[false],
+    },
+    Pass {
+        pages: &[0, 12],
+        needed: 4,
+        plan: &[Planned {
+            page: 18,
+            frame: 3,
+            victim: None,
+        }],
+        lost: &[false],
+    },
+    Pass {
+        pages: &[0, 12],
+        needed: 4,
+        plan: &[Planned {
+            page: 12,
+            frame: 4,
+            victim: None,
+        }],
+        lost: &[false],
+    },
+    Pass {
+        pages: &[0, 12],
+        needed: 4,
+        plan: &[],
+        lost: &[],
+    },
+];
+
+#[test]
+fn a_batch_of_one_goes_down_one_line_after_the_other(rt: HostRuntime) {
+    holds(&rt, are_passes(rt.alloc(), 8, 5, 1, &LINE_BY_LINE));
+}
+
+static ABOVE: [Pass; 3] = [
+    Pass {
+        pages: &[0],
+        needed: 2,
+        plan: &[Planned {
+            page: 16,
+            frame: 1,
+            victim: None,
+        }],
+        lost: &[false],
+    },
+    Pass {
+        pages: &[0],
+        needed: 2,
+        plan: &[],
+        lost: &[],
+    },
+    Pass {
+        pages: &[12],
+        needed: 2,
+        plan: &[Planned {
+            page: 18,
+            frame: 1,
+            victim: Some(16),
+        }],
+        lost: &[false],
+    },
+];
 
 #[test]
 fn a_page_above_a_wanted_one_keeps_its_frame(rt: HostRuntime) {
-    const PASSES: [Pass; 3] = [
-        Pass {
-            pages: &[0],
-            needed: 2,
-            plan: &[Planned {
-                page: 16,
-                frame: 1,
-                victim: None,
-            }],
-            lost: &[false],
-        },
-        Pass {
-            pages: &[0],
-            needed: 2,
-            plan: &[],
-            lost: &[],
-        },
-        Pass {
-            pages: &[12],
-            needed: 2,
-            plan: &[Planned {
-                page: 18,
-                frame: 1,
-                victim: Some(16),
-            }],
-            lost: &[false],
-        },
-    ];
-    holds(&rt, are_passes(rt.alloc(), 8, 2, 64, &PASSES));
+    holds(&rt, are_passes(rt.alloc(), 8, 2, 64, &ABOVE));
 }
 
-#[test]
-fn a_lost_tile_leaves_its_victim(rt: HostRuntime) {
-    const PASSES: [Pass; 4] = [
-        Pass {
-            pages: &[0, 2],
-            needed: 2,
-            plan: &[
-                Planned {
-                    page: 0,
-                    frame: 1,
-                    victim: None,
-                },
-                Planned {
-                    page: 2,
-                    frame: 2,
-                    victim: None,
-                },
-            ],
-            lost: &[false, false],
-        },
-        Pass {
-            pages: &[0, 2],
-            needed: 2,
-            plan: &[],
-            lost: &[],
-        },
-        Pass {
-            pages: &[1, 3],
-            needed: 2,
-            plan: &[
-                Planned {
-                    page: 1,
-                    frame: 2,
-                    victim: Some(2),
-                },
-                Planned {
-                    page: 3,
-                    frame: 1,
-                    victim: Some(0),
-                },
-            ],
-            lost: &[true, false],
-        },
-        Pass {
-            pages: &[1, 3],
-            needed: 2,
-            plan: &[Planned {
-                page: 1,
-                frame: 2,
-                victim: Some(2),
-            }],
-            lost: &[false],
-        },
-    ];
-    holds(&rt, are_passes(rt.alloc(), 4, 3, 64, &PASSES));
-}
-
-#[test]
-fn one_picture_settles_page_by_page(rt: HostRuntime) {
-    const PASSES: [Pass; 3] = [
-        Pass {
-            pages: &[0, 2],
-            needed: 2,
-            plan: &[Planned {
+static LOST: [Pass; 4] = [
+    Pass {
+        pages: &[0, 2],
+        needed: 2,
+        plan: &[
+            Planned {
                 page: 0,
                 frame: 1,
                 victim: None,
-            }],
-            lost: &[false],
-        },
-        Pass {
-            pages: &[0, 2],
-            needed: 2,
-            plan: &[Planned {
+            },
+            Planned {
                 page: 2,
                 frame: 2,
                 victim: None,
-            }],
-            lost: &[false],
-        },
-        Pass {
-            pages: &[0, 2],
-            needed: 2,
-            plan: &[],
-            lost: &[],
-        },
-    ];
-    holds(&rt, are_passes(rt.alloc(), 4, 3, 1, &PASSES));
+            },
+        ],
+        lost: &[false, false],
+    },
+    Pass {
+        pages: &[0, 2],
+        needed: 2,
+        plan: &[],
+        lost: &[],
+    },
+    Pass {
+        pages: &[1, 3],
+        needed: 2,
+        plan: &[
+            Planned {
+                page: 1,
+                frame: 2,
+                victim: Some(2),
+            },
+            Planned {
+                page: 3,
+                frame: 1,
+                victim: Some(0),
+            },
+        ],
+        lost: &[true, false],
+    },
+    Pass {
+        pages: &[1, 3],
+        needed: 2,
+        plan: &[Planned {
+            page: 1,
+            frame: 2,
+            victim: Some(2),
+        }],
+        lost: &[false],
+    },
+];
+
+#[test]
+fn a_lost_tile_leaves_its_victim(rt: HostRuntime) {
+    holds(&rt, are_passes(rt.alloc(), 4, 3, 64, &LOST));
+}
+
+static PAGE_BY_PAGE: [Pass; 3] = [
+    Pass {
+        pages: &[0, 2],
+        needed: 2,
+        plan: &[Planned {
+            page: 0,
+            frame: 1,
+            victim: None,
+        }],
+        lost: &[false],
+    },
+    Pass {
+        pages: &[0, 2],
+        needed: 2,
+        plan: &[Planned {
+            page: 2,
+            frame: 2,
+            victim: None,
+        }],
+        lost: &[false],
+    },
+    Pass {
+        pages: &[0, 2],
+        needed: 2,
+        plan: &[],
+        lost: &[],
+    },
+];
+
+#[test]
+fn one_picture_settles_page_by_page(rt: HostRuntime) {
+    holds(&rt, are_passes(rt.alloc(), 4, 3, 1, &PAGE_BY_PAGE));
 }

@@ -20,11 +20,6 @@ fn passes_of(alloc: Global, text: &[u8]) -> Result<u32, JournalError> {
     }
 }
 
-// The refusal of a line.
-fn bad(line: u32) -> Result<u32, JournalError> {
-    Err(JournalError::BadLine { line })
-}
-
 // The answers that the lines 1 to 4 are refused.
 const BAD1: Result<u32, JournalError> = Err(JournalError::BadLine { line: 1 });
 
@@ -77,51 +72,4 @@ fn a_line_that_may_not_follow_is_refused(rt: HostRuntime) {
         ("pass 1 picture 0 start 1\nrow 0 63 1\n", Ok(1)),
     ];
     no_row_is_wrong(&rt, misread(rt.alloc(), HEAD, &ROWS));
-}
-
-// How many passes the front of the journal of a lost tile tells that ends at a place of this line.
-fn passes_at(end: usize, line: u32) -> Result<u32, JournalError> {
-    match end {
-        14 => Ok(0),
-        49 => Ok(1),
-        112 => Ok(2),
-        147 => Ok(3),
-        223 => Ok(4),
-        _ => bad(line),
-    }
-}
-
-// The length of the first front of a text that is read otherwise.
-fn misread_front(alloc: Global, text: &[u8]) -> Option<usize> {
-    let mut line: u32 = 1;
-    for end in 0..text.len() + 1 {
-        if 0 < end && text[end - 1] == b'\n' {
-            line = line.wrapping_add(1);
-        }
-        if passes_of(alloc, &text[..end]) != passes_at(end, line) {
-            return Some(end);
-        }
-    }
-    None
-}
-
-#[test]
-fn a_front_of_a_journal_is_one_where_it_ends_after_the_head_or_a_row(rt: HostRuntime) {
-    no_row_is_wrong(&rt, misread_front(rt.alloc(), LOST_TILE.as_bytes()));
-}
-
-#[test]
-fn a_journal_without_one_of_its_changes_is_refused_where_the_next_pass_begins(rt: HostRuntime) {
-    let text = "map 1 1 0 0 0
-pass 1 picture 0 start 1
-row 0 0 1
-pass 2 picture 0 start 1
-map 2 0 0 0 1
-row 0 0 2
-pass 3 picture 0 start 2
-row 0 0 2
-pass 4 picture 0 start 3
-row 0 0 3
-";
-    assert!(rt; passes_of(rt.alloc(), text.as_bytes()) == bad(9));
 }
