@@ -4,10 +4,10 @@
 usage: real_files.py [PROGRAM]     (crates/vtex/out/vtex where it is left out, which `rt run` builds if it is not there)
 
 Part of the gate. Each row of the tables of real_rows.py and real_runs.py is tried in a folder of its own, several at once; `Checks` says what that
-folder holds before. The results are compared with those of the modules behind reference.py, which are called here, with those of client.py, and for large textures
-with those of tiles.c, which wants gcc. Where g++ is installed engine.py is run, and where netpbm, ImageMagick or ffmpeg are, textures of theirs are
-read. It prints a line for each check that failed and for each that was skipped, and at last how many passed and failed. The status is 0 where none
-failed.
+folder holds before. The results are compared with those of the modules behind reference.py, which are called here, with those of client.py, with what
+was worked by hand, and for large textures with those of tiles.c, which wants gcc. Where g++ is installed engine.py is run, and where netpbm,
+ImageMagick or ffmpeg are, textures of theirs are read. It prints a line for each check that failed and for each that was skipped, and at last how
+many passed and failed. The status is 0 where none failed.
 """
 import contextlib
 import filecmp
@@ -546,7 +546,7 @@ def walks_alike(check):
 
 
 def far_walk(check):
-    """A settled walk over far more pages than frames prints what its pages give; its pictures, the plain ones and those of its journal are the same."""
+    """A settled walk over far more pages than frames: its log is what the pages give, and its pictures are the plain ones and those of its journal."""
     write("a.path", FAR_PATH)
     ran = [check.run(words) for words in FAR_RUNS]
     good = all((it.returncode, it.stderr) == (0, b"") for it in ran) and b"".join(it.stdout for it in ran) == FAR_PRINTED

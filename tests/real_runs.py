@@ -167,8 +167,8 @@ BLENDED = Run(
     [BLEND],
 )
 
-# Stores, and the lines that tell of them. All channels of texel (x, y) of the odd one are 10y+x. The boxes of 0, 1, 2, 3 and of 0, 0, 0, 1 are the two
-# texels of level 1 of the rounded one: 2 and 0.
+# Stores, and the lines that tell of them. All channels of texel (x, y) of the odd one are 10y+x. The boxes of 0, 1, 2, 3 and of 0, 0, 0, 1 are the
+# two texels of level 1 of the rounded one: 2 and 0.
 DEEP_STORE = b"VTS2" + bytes.fromhex("00000001 00000001 00000002 00018000ffff 00018000ffff 00018000ffff 00018000ffff")
 ODD_STORE = b"VTS1" + bytes.fromhex(
     """00000005 00000003 00000002
