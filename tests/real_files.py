@@ -546,7 +546,7 @@ def walks_alike(check):
 
 
 def far_walk(check):
-    """A settled walk over far more pages than frames: its log is what the pages give, and its pictures are the plain ones and those of its journal."""
+    """A settled walk over far more pages than frames: its log is what its pages give, its pictures are plain and those of its journal."""
     write("a.path", FAR_PATH)
     ran = [check.run(words) for words in FAR_RUNS]
     good = all((it.returncode, it.stderr) == (0, b"") for it in ran) and b"".join(it.stdout for it in ran) == FAR_PRINTED

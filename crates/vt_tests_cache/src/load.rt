@@ -87,10 +87,10 @@ fn ask<Rt: Threads + Wait>(
     requests.put(rt, asks, request).is_ok()
 }
 
-// A result that is to be: its ticket, and the tile that was read, or none where it was lost, with a buffer of 12 bytes.
+// A result that is to be: its ticket, and the tile that was read, which is empty where it was lost, with a buffer of 12 bytes.
 struct Answer {
     ticket: u32,
-    tile: Option<&'static [u8]>,
+    tile: &'static [u8],
 }
 
 // What a loader is to do with two requests, with the tickets 0 and 1: the second one's page and buffer, the results, and the places
@@ -99,21 +99,22 @@ struct Round {
     calls: &'static [Fail],
     store: &'static [u8],
     second: (u32, &'static [u8]),
-    answers: [Option<Answer>; 3],
+    answers: &'static [Answer],
     places: &'static [Place],
 }
 
 // Whether this is that result.
 fn is_result(loaded: &Loaded, answer: &Answer) -> bool {
-    let is_right = match answer.tile {
-        Some(tile) => loaded.outcome == Outcome::Read && loaded.request.buffer.slice() == tile,
-        None => loaded.outcome == Outcome::Lost && loaded.request.buffer.len() == 12,
+    let is_right = if answer.tile.is_empty() {
+        loaded.outcome == Outcome::Lost && loaded.request.buffer.len() == 12
+    } else {
+        loaded.outcome == Outcome::Read && loaded.request.buffer.slice() == answer.tile
     };
     is_right && loaded.request.ticket == answer.ticket
 }
 
 // Whether this is that result, or none where there is to be none.
-fn is_answer(found: Option<Loaded>, answer: &Option<Answer>) -> bool {
+fn is_answer(found: Option<Loaded>, answer: Option<&Answer>) -> bool {
     match (found, answer) {
         (Some(loaded), Some(answer)) => is_result(&loaded, answer),
         (None, None) => true,
@@ -121,18 +122,18 @@ fn is_answer(found: Option<Loaded>, answer: &Option<Answer>) -> bool {
     }
 }
 
-// Whether three results are taken that are those.
+// Whether three results are taken that are those, and none behind them.
 fn are_answers<Rt: Threads + Wait>(
     rt: &Rt,
     results: &ResultQueue,
     pass: &mut QueuePass<Loaded>,
-    answers: &[Option<Answer>; 3],
+    answers: &[Answer],
 ) -> bool
     requires { IsPassOfQueue results.now pass.old }
 {
-    is_answer(results.take(rt, pass), &answers[0])
-        && is_answer(results.take(rt, pass), &answers[1])
-        && is_answer(results.take(rt, pass), &answers[2])
+    is_answer(results.take(rt, pass), answers.get(0))
+        && is_answer(results.take(rt, pass), answers.get(1))
+        && is_answer(results.take(rt, pass), answers.get(2))
 }
 
 // Whether a loader answers two requests so, the first of which is for this page and with this buffer.
@@ -153,7 +154,7 @@ fn is_answered<Rt: Threads + Wait>(
     let is_first = ask(rt, alloc, &requests, &mut asks, 0, first.0, first.1);
     let is_second = ask(rt, alloc, &requests, &mut asks, 1, page, buffer);
     run_one(rt, folder, &requests, &mut asks, &results, &mut answers);
-    is_first && is_second && are_answers(rt, &results, &mut answers, &round.answers)
+    is_first && is_second && are_answers(rt, &results, &mut answers, round.answers)
 }
 
 // Whether a loader does that, where the first request is for this page and with this buffer.
@@ -191,113 +192,111 @@ const TILE_2: Place = Place {
     failed: false,
 };
 
+const TILE_4: Place = Place {
+    at: 64,
+    len: 12,
+    failed: false,
+};
+
+static IN_ORDER: Round = Round {
+    calls: &[],
+    store: &STORE,
+    second: (4, &[9; 12]),
+    answers: &[
+        Answer {
+            ticket: 0,
+            tile: &[2, 2, 2, 3, 3, 3, 6, 6, 6, 7, 7, 7],
+        },
+        Answer {
+            ticket: 1,
+            tile: &[3, 3, 3, 5, 5, 5, 11, 11, 11, 13, 13, 13],
+        },
+    ],
+    places: &[HEADER, TILE_1, TILE_4],
+};
+
 #[test]
 fn requests_are_answered_in_the_order_of_the_queue(rt: HostRuntime) {
-    const TILE_4: Place = Place {
-        at: 64,
-        len: 12,
-        failed: false,
-    };
-    const ROUND: Round = Round {
-        calls: &[],
-        store: &STORE,
-        second: (4, &[9; 12]),
-        answers: [
-            Some(Answer {
-                ticket: 0,
-                tile: Some(&[2, 2, 2, 3, 3, 3, 6, 6, 6, 7, 7, 7]),
-            }),
-            Some(Answer {
-                ticket: 1,
-                tile: Some(&[3, 3, 3, 5, 5, 5, 11, 11, 11, 13, 13, 13]),
-            }),
-            None,
-        ],
-        places: &[HEADER, TILE_1, TILE_4],
-    };
-    holds(&rt, is_served(&rt, rt.alloc(), (1, &[0; 12]), &ROUND));
+    holds(&rt, is_served(&rt, rt.alloc(), (1, &[0; 12]), &IN_ORDER));
 }
+
+const LOST_TILE_3: Place = Place {
+    at: 52,
+    len: 12,
+    failed: true,
+};
+
+const TILE_0: Place = Place {
+    at: 16,
+    len: 12,
+    failed: false,
+};
+
+static LOSES_ONE: Round = Round {
+    calls: &[Fail::Read {
+        opening: 0,
+        read: 1,
+    }],
+    store: &STORE,
+    second: (0, &[0; 12]),
+    answers: &[
+        Answer {
+            ticket: 0,
+            tile: &[],
+        },
+        Answer {
+            ticket: 1,
+            tile: &[0, 0, 0, 1, 1, 1, 4, 4, 4, 5, 5, 5],
+        },
+    ],
+    places: &[HEADER, LOST_TILE_3, TILE_0],
+};
 
 #[test]
 fn a_loader_goes_on_after_a_lost_read(rt: HostRuntime) {
-    const LOST: Place = Place {
-        at: 52,
-        len: 12,
-        failed: true,
-    };
-    const TILE_0: Place = Place {
-        at: 16,
-        len: 12,
-        failed: false,
-    };
-    const ROUND: Round = Round {
-        calls: &[Fail::Read {
-            opening: 0,
-            read: 1,
-        }],
-        store: &STORE,
-        second: (0, &[0; 12]),
-        answers: [
-            Some(Answer {
-                ticket: 0,
-                tile: None,
-            }),
-            Some(Answer {
-                ticket: 1,
-                tile: Some(&[0, 0, 0, 1, 1, 1, 4, 4, 4, 5, 5, 5]),
-            }),
-            None,
-        ],
-        places: &[HEADER, LOST, TILE_0],
-    };
-    holds(&rt, is_served(&rt, rt.alloc(), (3, &[0; 12]), &ROUND));
+    holds(&rt, is_served(&rt, rt.alloc(), (3, &[0; 12]), &LOSES_ONE));
 }
+
+static DROPPED: [(u32, &[u8]); 4] = [(5, &[0; 12]), (u32::MAX, &[0; 12]), (1, &[0; 11]), (1, &[])];
+
+static DROPS_ONE: Round = Round {
+    calls: &[],
+    store: &STORE,
+    second: (2, &[0; 12]),
+    answers: &[Answer {
+        ticket: 1,
+        tile: &[8, 8, 8, 9, 9, 9, 12, 12, 12, 13, 13, 13],
+    }],
+    places: &[HEADER, TILE_2],
+};
 
 #[test]
 fn a_request_of_no_page_or_with_another_buffer_is_dropped(rt: HostRuntime) {
-    const CASES: [(u32, &[u8]); 4] = [(5, &[0; 12]), (u32::MAX, &[0; 12]), (1, &[0; 11]), (1, &[])];
-    const ROUND: Round = Round {
-        calls: &[],
-        store: &STORE,
-        second: (2, &[0; 12]),
-        answers: [
-            Some(Answer {
-                ticket: 1,
-                tile: Some(&[8, 8, 8, 9, 9, 9, 12, 12, 12, 13, 13, 13]),
-            }),
-            None,
-            None,
-        ],
-        places: &[HEADER, TILE_2],
-    };
-    for case in &CASES {
-        holds(&rt, is_served(&rt, rt.alloc(), *case, &ROUND));
+    for case in &DROPPED {
+        holds(&rt, is_served(&rt, rt.alloc(), *case, &DROPS_ONE));
     }
 }
 
+const WIDE_TILE: Place = Place {
+    at: 64,
+    len: 24,
+    failed: false,
+};
+
+static READS_WIDE: Round = Round {
+    calls: &[],
+    store: &WIDE_STORE,
+    second: (2, &[0; 12]),
+    answers: &[Answer {
+        ticket: 0,
+        tile: &[
+            8, 8, 8, 8, 8, 8, 9, 9, 9, 9, 9, 9, 12, 12, 12, 12, 12, 12, 13, 13, 13, 13, 13, 13,
+        ],
+    }],
+    places: &[HEADER, WIDE_TILE],
+};
+
 #[test]
 fn a_store_of_two_bytes_a_sample_has_tiles_of_twice_the_length(rt: HostRuntime) {
-    const TILE: Place = Place {
-        at: 64,
-        len: 24,
-        failed: false,
-    };
-    const ROUND: Round = Round {
-        calls: &[],
-        store: &WIDE_STORE,
-        second: (2, &[0; 12]),
-        answers: [
-            Some(Answer {
-                ticket: 0,
-                tile: Some(&[
-                    8, 8, 8, 8, 8, 8, 9, 9, 9, 9, 9, 9, 12, 12, 12, 12, 12, 12, 13, 13, 13, 13, 13,
-                    13,
-                ]),
-            }),
-            None,
-            None,
-        ],
-        places: &[HEADER, TILE],
-    };
-    holds(&rt, is_served(&rt, rt.alloc(), (2, &[0; 24]), &ROUND));
+    holds(&rt, is_served(&rt, rt.alloc(), (2, &[0; 24]), &READS_WIDE));
 }

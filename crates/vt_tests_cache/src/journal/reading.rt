@@ -52,24 +52,26 @@ fn misread(
     None
 }
 
+static WHOLE: [(&str, Result<u32, JournalError>); 4] = [
+    ("", BAD1),
+    ("map 1 0 1 1 0\nmap 2 1 0 0 1\n", Ok(0)),
+    (LOST_TILE, Ok(4)),
+    (SETTLED, Ok(4)),
+];
+
 #[test]
 fn a_text_ends_after_a_whole_head_or_a_whole_pass(rt: HostRuntime) {
-    const ROWS: [(&str, Result<u32, JournalError>); 4] = [
-        ("", BAD1),
-        ("map 1 0 1 1 0\nmap 2 1 0 0 1\n", Ok(0)),
-        (LOST_TILE, Ok(4)),
-        (SETTLED, Ok(4)),
-    ];
-    no_row_is_wrong(&rt, misread(rt.alloc(), "", &ROWS));
+    no_row_is_wrong(&rt, misread(rt.alloc(), "", &WHOLE));
 }
+
+static FOLLOWING: [(&str, Result<u32, JournalError>); 4] = [
+    ("row 0 0 1\n", BAD2),
+    ("pass 1 picture 0 start 1\nrow 0 0 2\n", BAD3),
+    ("pass 1 picture 0 start 1\nrow 0 0 1\nmap 2 0 0 0 1\n", BAD4),
+    ("pass 1 picture 0 start 1\nrow 0 63 1\n", Ok(1)),
+];
 
 #[test]
 fn a_line_that_may_not_follow_is_refused(rt: HostRuntime) {
-    const ROWS: [(&str, Result<u32, JournalError>); 4] = [
-        ("row 0 0 1\n", BAD2),
-        ("pass 1 picture 0 start 1\nrow 0 0 2\n", BAD3),
-        ("pass 1 picture 0 start 1\nrow 0 0 1\nmap 2 0 0 0 1\n", BAD4),
-        ("pass 1 picture 0 start 1\nrow 0 63 1\n", Ok(1)),
-    ];
-    no_row_is_wrong(&rt, misread(rt.alloc(), HEAD, &ROWS));
+    no_row_is_wrong(&rt, misread(rt.alloc(), HEAD, &FOLLOWING));
 }

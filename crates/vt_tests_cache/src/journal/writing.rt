@@ -189,83 +189,88 @@ const FIRST: Change = Change::Map { page: 0, frame: 1 };
 
 const SECOND: Change = Change::Map { page: 2, frame: 2 };
 
+const VICTIM: Change = Change::Unmap { page: 0, frame: 1 };
+
+const THIRD: Change = Change::Map { page: 3, frame: 1 };
+
+const LOST: [Event; 3] = [
+    Event::Lost { page: 1 },
+    Event::Changed(VICTIM),
+    Event::Changed(THIRD),
+];
+
+static LOSING_PASSES: [Told; 4] = [
+    Told {
+        pass: 1,
+        picture: 0,
+        start: 1,
+        events: &[],
+        version: 1,
+    },
+    Told {
+        pass: 2,
+        picture: 1,
+        start: 1,
+        events: &[Event::Changed(FIRST), Event::Changed(SECOND)],
+        version: 1,
+    },
+    Told {
+        pass: 3,
+        picture: 2,
+        start: 3,
+        events: &[],
+        version: 3,
+    },
+    Told {
+        pass: 4,
+        picture: 3,
+        start: 3,
+        events: &LOST,
+        version: 3,
+    },
+];
+
 #[test]
 fn the_journal_of_a_lost_tile_is_written_and_read(rt: HostRuntime) {
-    const VICTIM: Change = Change::Unmap { page: 0, frame: 1 };
-    const THIRD: Change = Change::Map { page: 3, frame: 1 };
-    const LOST: [Event; 3] = [
-        Event::Lost { page: 1 },
-        Event::Changed(VICTIM),
-        Event::Changed(THIRD),
-    ];
-    const PASSES: [Told; 4] = [
-        Told {
-            pass: 1,
-            picture: 0,
-            start: 1,
-            events: &[],
-            version: 1,
-        },
-        Told {
-            pass: 2,
-            picture: 1,
-            start: 1,
-            events: &[Event::Changed(FIRST), Event::Changed(SECOND)],
-            version: 1,
-        },
-        Told {
-            pass: 3,
-            picture: 2,
-            start: 3,
-            events: &[],
-            version: 3,
-        },
-        Told {
-            pass: 4,
-            picture: 3,
-            start: 3,
-            events: &LOST,
-            version: 3,
-        },
-    ];
     let changes = [ROOT, FIRST, SECOND, VICTIM, THIRD];
-    assert!(rt; is_written_and_read(rt.alloc(), &PASSES, &changes, LOST_TILE));
+    assert!(rt; is_written_and_read(rt.alloc(), &LOSING_PASSES, &changes, LOST_TILE));
 }
+
+static SETTLING_PASSES: [Told; 4] = [
+    Told {
+        pass: 1,
+        picture: 0,
+        start: 1,
+        events: &[],
+        version: 1,
+    },
+    Told {
+        pass: 2,
+        picture: 0,
+        start: 1,
+        events: &[Event::Changed(FIRST)],
+        version: 2,
+    },
+    Told {
+        pass: 3,
+        picture: 0,
+        start: 2,
+        events: &[Event::Changed(SECOND)],
+        version: 3,
+    },
+    Told {
+        pass: 4,
+        picture: 0,
+        start: 3,
+        events: &[],
+        version: 3,
+    },
+];
 
 #[test]
 fn the_journal_of_a_settled_picture_is_written_and_read(rt: HostRuntime) {
-    const PASSES: [Told; 4] = [
-        Told {
-            pass: 1,
-            picture: 0,
-            start: 1,
-            events: &[],
-            version: 1,
-        },
-        Told {
-            pass: 2,
-            picture: 0,
-            start: 1,
-            events: &[Event::Changed(FIRST)],
-            version: 2,
-        },
-        Told {
-            pass: 3,
-            picture: 0,
-            start: 2,
-            events: &[Event::Changed(SECOND)],
-            version: 3,
-        },
-        Told {
-            pass: 4,
-            picture: 0,
-            start: 3,
-            events: &[],
-            version: 3,
-        },
-    ];
     let changes = [ROOT, FIRST, SECOND];
-    assert!(rt; is_written_and_read(rt.alloc(), &PASSES, &changes, SETTLED));
+    assert!(rt; is_written_and_read(rt.alloc(), &SETTLING_PASSES, &changes, SETTLED));
 }
 
 // The text of no pinned page.
