@@ -11,5 +11,6 @@ pub mod StripStores
 pub mod OneStep
 pub mod StripSteps
 pub mod StripLevels
+pub mod Written
 mod LevelRows
 mod LevelChain

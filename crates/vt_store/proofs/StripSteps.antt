@@ -4,6 +4,7 @@ use Rattle.std.proofs.lemmas.Nat.{le-div}
 use Rattle.std.specs.Prelude.{option_map, IfSome, Result}
 use Rattle.std.specs.Result.{IsErrAnd}
 use Rattle.vt_outside.specs.Counts.{Rose}
+use Rattle.vt_outside.specs.Effects.{FolderEffect, FolderState}
 use Rattle.vt_outside.specs.Files.{Files, with_appended}
 use Rattle.vt_outside.specs.declared.answers.OutsideError.{OutsideError}
 use Rattle.vt_outside.specs.declared.answers.OutsideError.TheVariants as outside_error
@@ -20,8 +21,8 @@ use Rattle.vt_tiles.specs.declared.error.StoreError.TheVariants.{Failed}
 use Rattle.vt_tiles.specs.Made.{HoldsMade, HoldsMadeFront}
 use Rattle.vt_tiles.specs.Refusals.{IsOutsideRefusal, refusal_by}
 use Rattle.vt_store.specs.StripStores.{strip_front, strip_tiles}
-use Rattle.vt_store.specs.Steps.{AddsFront, StepDone, StepStopped}
-use Rattle.vt_store.specs.StripSteps.{StripsState, KeepsStrips, IsNextStrip, StripMade, StripLost, StripRead, ReadsStrip, IsStripThere, StripTried, StripStep, StripsDone, StripsStopped, AddsStrips, state_store}
+use Rattle.vt_store.specs.Steps.{AddsFront, AsksNoPlace, StepDone, StepStopped}
+use Rattle.vt_store.specs.StripSteps.{StripsState, KeepsStrips, KeepsStep, IsNextStrip, StripMade, StripLost, StripRead, ReadsStrip, IsStripThere, StripTried, StripStep, StripsDone, StripsStopped, AddsStrips, state_store}
 use Rattle.vt_store.proofs.StripStores.{store_made, made_moved, made_more, made_part, there_made}
 use Rattle.vt_ppm.proofs.StripPlaces.{more_strips, no_strips, strips_front, strip_tried}
 use Rattle.vt_store.proofs.StripLevels.{all_taken, strip_inside, strips_are, strip_low, next_taken}
@@ -40,6 +41,16 @@ keeps_on a b c p q = record {
   tile = q.tile ∙ p.tile;
   faults = omega (arith, p.faults, q.faults);
 }
+
+-- a folder, from one state to another
+abbrev pub between : FolderState → FolderState → FolderEffect
+between f g = record { before = f; after = g }
+
+pub asks_none : (f : FolderState) → AsksNoPlace (between f f)
+asks_none f = record { asked = refl; faults = omega arith }
+
+pub asks_on : (f g h : FolderState) → AsksNoPlace (between f g) → AsksNoPlace (between g h) → AsksNoPlace (between f h)
+asks_on f g h p q = record { asked = q.asked ∙ p.asked; faults = omega (arith, p.faults, q.faults) }
 
 -- its place, where it was asked by its row and number of rows
 pub asked_at : (h : Header) (t i y count : ℕ) (failed : Bool) (p q : Option (List Place)) → y ≡ i * t → count ≡ strip_rows h t i
@@ -77,9 +88,9 @@ is_next s i a columns next limits across =
     (ap (λ (z : Shape). min s.tile (z.height - i * s.tile)) next.shape) across
 
 -- The name holds the tiles of the first strips, those of strip i are made, and the strips up to it were read and halved
-pub record IsAhead (s : Shape) (n : List ℕ) (i : ℕ) (a b : StripsState) (f g : Option Files) (m k : ℕ) (row : List ℕ) : Type 0 where
-  pub held : (before : Option Files) → HoldsMade a.known (strip_front s a.header 0) n before f
-      → HoldsMade a.known (strip_front s a.header (i * columns_at s 0)) n before g
+pub record IsAhead (s : Shape) (n : List ℕ) (i : ℕ) (a b : StripsState) (folder : FolderEffect) (row : List ℕ) : Type 0 where
+  pub held : (before : Option Files) → HoldsMade a.known (strip_front s a.header 0) n before folder.before.files
+      → HoldsMade a.known (strip_front s a.header (i * columns_at s 0)) n before folder.after.files
   pub tiles : (bytes : List ℕ) → a.known ≡ Some bytes → row ≡ strip_tiles s a.header i bytes
   pub read : StripsAsked a.header s.tile (i + 1) a.places b.places
   pub spare : rows_at s 0 ≤ b.spare + (i + 1)
@@ -89,7 +100,7 @@ pub record IsAhead (s : Shape) (n : List ℕ) (i : ℕ) (a b : StripsState) (f g
   pub height : b.half.height ≡ a.half.height
   pub taken : b.half.taken ≡ min ((i + 1) * s.tile) a.header.height
   pub halves : (bytes : List ℕ) → a.known ≡ Some bytes → HalvesFront (texture_of a.header bytes) a.half → HalvesFront (texture_of a.header bytes) b.half
-  pub faults : m ≤ k
+  pub asks : AsksNoPlace folder
 
 module _ (s : Shape) (n : List ℕ) (a : StripsState) (first : IsNextStrip s 0 a) (limits : IsWithinLimits s) where
   high : a.header.height ≡ s.height
@@ -106,11 +117,11 @@ module _ (s : Shape) (n : List ℕ) (a : StripsState) (first : IsNextStrip s 0 a
   seen before g holds = subst (λ (z : Shape). HoldsMadeFront a.known (store_made z a.header) n before g) (sym first.shape) holds
 
   -- the first strip was not read
-  pub first_lost : (b : StripsState) (f : Option Files) (m : ℕ) → StripLost s 0 a b → StripsStopped s n a b f f m m Failed
-  first_lost b f m lost = record {
-    part = λ before h. seen before f
-        (made_part a.known a.known s a.header a.header 0 n before f f refl refl (strip_inside s 0 limits.some_level first.inside)
-        (made_moved a.known s a.header n before f 0 (0 * columns_at s 0) (omega arith) h) (inl refl));
+  pub first_lost : (b : StripsState) (f : FolderState) → StripLost s 0 a b → StripsStopped s n a b (between f f) Failed
+  first_lost b f lost = record {
+    part = λ before h. seen before f.files
+        (made_part a.known a.known s a.header a.header 0 n before f.files f.files refl refl (strip_inside s 0 limits.some_level first.inside)
+        (made_moved a.known s a.header n before f.files 0 (0 * columns_at s 0) (omega arith) h) (inl refl));
     front_read = strip_tried a.header a.header s.tile 0 (0 * s.tile) (strip_rows a.header s.tile 0) a.places a.places b.places
         (omega (arith, all_strips, first.inside)) (no_strips a.header s.tile a.places a.places refl) refl refl refl (inr lost.read);
     failed = λ _ before h. inr lost.rose;
@@ -118,10 +129,10 @@ module _ (s : Shape) (n : List ℕ) (a : StripsState) (first : IsNextStrip s 0 a
   }
 
   -- it was made
-  pub ahead_begun : (b : StripsState) (f : Option Files) (m : ℕ) (tiles : List ℕ) → rows_at s 0 ≤ a.spare → StripMade s 0 a b tiles
-      → KeepsStrips a b → a.spare ≤ b.spare + 1 → IsAhead s n 0 a b f f m m tiles
-  ahead_begun b f m tiles enough made kept spare = record {
-    held = λ before h. made_moved a.known s a.header n before f 0 (0 * columns_at s 0) (omega arith) h;
+  pub ahead_begun : (b : StripsState) (f : FolderState) (tiles : List ℕ) → rows_at s 0 ≤ a.spare → StripMade s 0 a b tiles → KeepsStrips a b
+      → a.spare ≤ b.spare + 1 → IsAhead s n 0 a b (between f f) tiles
+  ahead_begun b f tiles enough made kept spare = record {
+    held = λ before h. made_moved a.known s a.header n before f.files 0 (0 * columns_at s 0) (omega arith) h;
     tiles = made.tiles;
     read = more_strips a.header a.header s.tile 0 (0 * s.tile) (strip_rows a.header s.tile 0) a.places a.places b.places
         (no_strips a.header s.tile a.places a.places refl) refl refl refl made.read;
@@ -132,10 +143,10 @@ module _ (s : Shape) (n : List ℕ) (a : StripsState) (first : IsNextStrip s 0 a
     height = made.height;
     taken = made.taken ∙ ap (λ (c : ℕ). c + strip_rows a.header s.tile 0) first.taken ∙ next_taken s a.header 0 high some_tile first.inside;
     halves = made.halves;
-    faults = omega arith;
+    asks = asks_none f;
   }
 
-  module _ (i : ℕ) (b : StripsState) (f g : Option Files) (m k : ℕ) (tiles : List ℕ) (ahead : IsAhead s n i a b f g m k tiles) where
+  module _ (i : ℕ) (b : StripsState) (f g : FolderState) (tiles : List ℕ) (ahead : IsAhead s n i a b (between f g) tiles) where
     -- the next strip may be made
     pub ahead_next : i + 1 < rows_at s 0 → IsNextStrip s (i + 1) b
     ahead_next inside =
@@ -152,33 +163,33 @@ module _ (s : Shape) (n : List ℕ) (a : StripsState) (first : IsNextStrip s 0 a
         }
 
     -- the tiles that are made, where some of them were added
-    pub ahead_part : (p : ℕ) (h : Option Files) → i < rows_at s 0 → h ≡ option_map (with_appended n (take p tiles)) g
-        → (before : Option Files) → HoldsMade a.known (strip_front s a.header 0) n before f → HoldsMadeFront a.known (state_store a) n before h
+    pub ahead_part : (p : ℕ) (h : Option Files) → i < rows_at s 0 → h ≡ option_map (with_appended n (take p tiles)) g.files
+        → (before : Option Files) → HoldsMade a.known (strip_front s a.header 0) n before f.files → HoldsMadeFront a.known (state_store a) n before h
     ahead_part p h inside held before begun = seen before h
-        (made_part a.known a.known s a.header a.header i n before g h refl refl (strip_inside s i limits.some_level inside) (ahead.held before begun)
+        (made_part a.known a.known s a.header a.header i n before g.files h refl refl (strip_inside s i limits.some_level inside) (ahead.held before begun)
         (inr (record { more = tiles; part = p; held = held; same = ahead.tiles })))
 
     -- where all were added
-    ahead_added : (h : Option Files) → h ≡ option_map (with_appended n tiles) g → (before : Option Files)
-        → HoldsMade a.known (strip_front s a.header 0) n before f → HoldsMade a.known (strip_front s a.header ((i + 1) * columns_at s 0)) n before h
+    ahead_added : (h : Option Files) → h ≡ option_map (with_appended n tiles) g.files → (before : Option Files)
+        → HoldsMade a.known (strip_front s a.header 0) n before f.files → HoldsMade a.known (strip_front s a.header ((i + 1) * columns_at s 0)) n before h
     ahead_added h held before begun =
-        made_more a.known a.known s a.header a.header i n before g h refl refl (ahead.held before begun)
+        made_more a.known a.known s a.header a.header i n before g.files h refl refl (ahead.held before begun)
         (record { more = tiles; held = held; same = ahead.tiles })
 
     -- one step more
-    pub ahead_more : (c : StripsState) (h : Option Files) (l : ℕ) (next : List ℕ) → i + 1 < rows_at s 0 → StepDone (StripMade s (i + 1) b c next) n tiles g h
-        → KeepsStrips b c → b.spare ≤ c.spare + 1 → k ≤ l → IsAhead s n (i + 1) a c f h m l next
-    ahead_more c h l next inside done kept spare faults =
+    pub ahead_more : (c : StripsState) (h : FolderState) (next : List ℕ) → i + 1 < rows_at s 0
+        → StepDone (StripMade s (i + 1) b c next) n tiles (between g h) → KeepsStep b c (between g h) → IsAhead s n (i + 1) a c (between f h) next
+    ahead_more c h next inside done kept =
         let e = ahead.kept.header in
         let now = ahead_next inside in
         let made = done.made in
         record {
-          held = ahead_added h done.added;
+          held = ahead_added h.files done.added;
           tiles = λ bytes is. made.tiles bytes (ahead.kept.known ∙ is) ∙ ap (λ (z : Header). strip_tiles s z (i + 1) bytes) e;
           read = more_strips a.header b.header s.tile (i + 1) ((i + 1) * s.tile) (strip_rows b.header s.tile (i + 1)) a.places b.places c.places
               ahead.read e refl (ap (λ (z : Header). strip_rows z s.tile (i + 1)) e) made.read;
-          spare = omega (arith, ahead.spare, spare);
-          kept = keeps_on a b c ahead.kept kept;
+          spare = omega (arith, ahead.spare, kept.spare);
+          kept = keeps_on a b c ahead.kept kept.strips;
           depth = made.depth ∙ ahead.depth;
           width = made.width ∙ ahead.width;
           height = made.height ∙ ahead.height;
@@ -189,17 +200,17 @@ module _ (s : Shape) (n : List ℕ) (a : StripsState) (first : IsNextStrip s 0 a
               let Half : Header → HalvingView → Type 0 = λ z v. HalvesFront (texture_of z bytes) v in
               subst (λ (z : Header). Half z c.half) e
               (made.halves bytes (ahead.kept.known ∙ is) (subst (λ (z : Header). Half z b.half) (sym e) (ahead.halves bytes is half)));
-          faults = omega (arith, ahead.faults, faults);
+          asks = asks_on f g h ahead.asks kept.asks;
         }
 
     -- a step was refused
-    pub ahead_stopped : (c : StripsState) (h : Option Files) (l : ℕ) (e : StoreError) → i + 1 < rows_at s 0
-        → StepStopped (StripTried s (i + 1) b c) (Rose b.faults c.faults) n tiles g h k l e → StripsStopped s n a c f h m l e
-    ahead_stopped c h l e inside stopped = record {
-      part = ahead_part stopped.part h (omega arith) stopped.held;
+    pub ahead_stopped : (c : StripsState) (h : FolderState) (e : StoreError) → i + 1 < rows_at s 0
+        → StepStopped (StripTried s (i + 1) b c) (Rose b.faults c.faults) n tiles (between g h) e → StripsStopped s n a c (between f h) e
+    ahead_stopped c h e inside stopped = record {
+      part = ahead_part stopped.part h.files (omega arith) stopped.held;
       front_read = tried stopped.read;
-      failed = λ is before begun. rose_along m k l a.faults b.faults c.faults ahead.faults ahead.kept.faults
-          (stopped.rose is (there_made a.known (strip_front s a.header (i * columns_at s 0)) n before g (ahead.held before begun)));
+      failed = λ is before begun. rose_along f.faults g.faults h.faults a.faults b.faults c.faults ahead.asks.faults ahead.kept.faults
+          (stopped.rose is (there_made a.known (strip_front s a.header (i * columns_at s 0)) n before g.files (ahead.held before begun)));
       outside = stopped.outside;
     } where
       few : i + 1 < strips_of a.header s.tile
@@ -211,28 +222,28 @@ module _ (s : Shape) (n : List ℕ) (a : StripsState) (first : IsNextStrip s 0 a
           few ahead.read ahead.kept.header refl (ap (λ (z : Header). strip_rows z s.tile (i + 1)) ahead.kept.header) one
 
     -- the last row of tiles was refused
-    pub last_refused : {T : Type 0} (h : Option Files) (l : ℕ) (e : OutsideError) (q : Result T StoreError) → i + 1 ≡ rows_at s 0
-        → IsErrAnd q (λ x. x ≡ refusal_by e) → AddsFront n tiles g h k l e → AddsStrips s n a b f h m l q
-    last_refused h l e (Ok x) all is adds = absurd is
-    last_refused h l outside_error.Failed (Err x) all is adds = record {
-      part = ahead_part adds.part h (omega arith) adds.held;
+    pub last_refused : {T : Type 0} (h : FolderState) (e : OutsideError) (q : Result T StoreError) → i + 1 ≡ rows_at s 0
+        → IsErrAnd q (λ x. x ≡ refusal_by e) → AddsFront n tiles (between g h) e → AddsStrips s n a b (between f h) q
+    last_refused h e (Ok x) all is adds = absurd is
+    last_refused h outside_error.Failed (Err x) all is adds = record {
+      part = ahead_part adds.part h.files (omega arith) adds.held;
       front_read = strips_front a.header s.tile (i + 1) a.places b.places (omega (arith, all_strips, all)) ahead.read;
-      failed = λ _ before begun. rose_along m k l a.faults b.faults b.faults ahead.faults ahead.kept.faults
-          (inl (adds.rose refl (there_made a.known (strip_front s a.header (i * columns_at s 0)) n before g (ahead.held before begun))));
+      failed = λ _ before begun. rose_along f.faults g.faults h.faults a.faults b.faults b.faults ahead.asks.faults ahead.kept.faults
+          (inl (adds.rose refl (there_made a.known (strip_front s a.header (i * columns_at s 0)) n before g.files (ahead.held before begun))));
       outside = subst IsOutsideRefusal (sym is) tt;
     }
-    last_refused h l outside_error.NoMemory (Err x) all is adds = record {
-      part = ahead_part adds.part h (omega arith) adds.held;
+    last_refused h outside_error.NoMemory (Err x) all is adds = record {
+      part = ahead_part adds.part h.files (omega arith) adds.held;
       front_read = strips_front a.header s.tile (i + 1) a.places b.places (omega (arith, all_strips, all)) ahead.read;
       failed = λ failed before begun. let no : ⊥ = cc in absurd no;
       outside = subst IsOutsideRefusal (sym is) tt;
     }
 
     -- it was added
-    pub last_added : (h : Option Files) → i + 1 ≡ rows_at s 0 → h ≡ option_map (with_appended n tiles) g → StripsDone s n a b f h
+    pub last_added : (h : FolderState) → i + 1 ≡ rows_at s 0 → h.files ≡ option_map (with_appended n tiles) g.files → StripsDone s n a b (between f h)
     last_added h all held = record {
-      whole = λ before begun. made_moved a.known s a.header n before h ((i + 1) * columns_at s 0) (rows_at s 0 * columns_at s 0)
-          (ap (λ (x : ℕ). x * columns_at s 0) all) (ahead_added h held before begun);
+      whole = λ before begun. made_moved a.known s a.header n before h.files ((i + 1) * columns_at s 0) (rows_at s 0 * columns_at s 0)
+          (ap (λ (x : ℕ). x * columns_at s 0) all) (ahead_added h.files held before begun);
       all_read = subst (λ (x : ℕ). StripsAsked a.header s.tile x a.places b.places) (all ∙ sym all_strips) ahead.read;
       halves = ahead.halves;
       all_taken = omega (arith, all_taken s some_tile, ap (λ (x : ℕ). x * s.tile) all, high, first.height, ahead.taken);
@@ -242,10 +253,10 @@ module _ (s : Shape) (n : List ℕ) (a : StripsState) (first : IsNextStrip s 0 a
     }
 
 -- a step in rooms that were lent
-pub steps_in : {T : Type 0} (s : Shape) (i : ℕ) (n tiles tiles' next next' : List ℕ) (a b : StripsState) (f g : Option Files) (m k : ℕ)
-    (r : Result T StoreError) → tiles ≡ tiles' → next' ≡ next → StripStep s i n tiles next a b f g m k r → StripStep s i n tiles' next' a b f g m k r
-steps_in s i n tiles tiles' next next' a b f g m k r lent back step =
-    subst (λ (l : List ℕ). StripStep s i n tiles' l a b f g m k r) (sym back) (subst (λ (l : List ℕ). StripStep s i n l next a b f g m k r) lent step)
+pub steps_in : {T : Type 0} (s : Shape) (i : ℕ) (n tiles tiles' next next' : List ℕ) (a b : StripsState) (folder : FolderEffect) (r : Result T StoreError)
+    → tiles ≡ tiles' → next' ≡ next → StripStep s i n tiles next a b folder r → StripStep s i n tiles' next' a b folder r
+steps_in s i n tiles tiles' next next' a b folder r lent back step =
+    subst (λ (l : List ℕ). StripStep s i n tiles' l a b folder r) (sym back) (subst (λ (l : List ℕ). StripStep s i n l next a b folder r) lent step)
 
 -- there is a strip
 pub rows_some : (s : Shape) → IsWithinLimits s → 1 ≤ rows_at s 0
@@ -266,7 +277,7 @@ first_next s a shape limits spare depth width height taken = record {
 }
 
 -- what refused a step refuses the writing of the strips
-pub stopped_by : {T : Type 0} (s : Shape) (n : List ℕ) (a b : StripsState) (f g : Option Files) (m k : ℕ) (q : Result T StoreError) (e : StoreError)
-    → IsErrAnd q (λ x. x ≡ e) → StripsStopped s n a b f g m k e → AddsStrips s n a b f g m k q
-stopped_by s n a b f g m k (Ok x) e is stopped = absurd is
-stopped_by s n a b f g m k (Err x) e is stopped = subst (λ (y : StoreError). StripsStopped s n a b f g m k y) (sym is) stopped
+pub stopped_by : {T : Type 0} (s : Shape) (n : List ℕ) (a b : StripsState) (folder : FolderEffect) (q : Result T StoreError) (e : StoreError)
+    → IsErrAnd q (λ x. x ≡ e) → StripsStopped s n a b folder e → AddsStrips s n a b folder q
+stopped_by s n a b folder (Ok x) e is stopped = absurd is
+stopped_by s n a b folder (Err x) e is stopped = subst (λ (y : StoreError). StripsStopped s n a b folder y) (sym is) stopped

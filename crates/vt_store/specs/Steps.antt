@@ -1,7 +1,8 @@
 -- One step of writing a store: bytes that are made are added to the name, while the next ones are made.
-use Rattle.std.specs.Prelude.{◌≡◌, ◌⊎◌, ℕ, List, take, Option, option_map, Result, Ok, Err}
+use Rattle.std.specs.Prelude.{◌≡◌, ◌⊎◌, ℕ, ◌≤◌, List, take, option_map, Result, Ok, Err}
 use Rattle.vt_outside.specs.Counts.{Rose}
-use Rattle.vt_outside.specs.Files.{Files, IsThere, with_appended}
+use Rattle.vt_outside.specs.Effects.{FolderEffect}
+use Rattle.vt_outside.specs.Files.{IsThere, with_appended}
 use Rattle.vt_outside.specs.declared.answers.OutsideError.{OutsideError}
 use Rattle.vt_outside.specs.declared.answers.OutsideError.TheVariants as outside_error
 use Rattle.vt_tiles.specs.declared.error.StoreError.{StoreError}
@@ -14,31 +15,35 @@ Makes made lost (Ok _) = made
 Makes made lost (Err _) = lost
 
 -- a prefix of the bytes was added to the name, and the call failed only where the count rose
-pub record AddsFront (name bytes : List ℕ) (before after : Option Files) (faults_before faults_after : ℕ) (e : OutsideError) : Type 0 where
+pub record AddsFront (name bytes : List ℕ) (folder : FolderEffect) (e : OutsideError) : Type 0 where
   pub part : ℕ
-  pub held : after ≡ option_map (with_appended name (take part bytes)) before
-  pub rose : e ≡ outside_error.Failed → IsThere before name → Rose faults_before faults_after
+  pub held : folder.after.files ≡ option_map (with_appended name (take part bytes)) folder.before.files
+  pub rose : e ≡ outside_error.Failed → IsThere folder.before.files name → Rose folder.before.faults folder.after.faults
 
 -- the bytes were added to the name, or a prefix of them
-abbrev pub AddsBytes : {T : Type 0} → List ℕ → List ℕ → Option Files → Option Files → ℕ → ℕ → Result T OutsideError → Type 0
-AddsBytes name bytes before after faults_before faults_after (Ok _) = after ≡ option_map (with_appended name bytes) before
-AddsBytes name bytes before after faults_before faults_after (Err e) = AddsFront name bytes before after faults_before faults_after e
+abbrev pub AddsBytes : {T : Type 0} → List ℕ → List ℕ → FolderEffect → Result T OutsideError → Type 0
+AddsBytes name bytes folder (Ok _) = folder.after.files ≡ option_map (with_appended name bytes) folder.before.files
+AddsBytes name bytes folder (Err e) = AddsFront name bytes folder e
+
+-- the folder was asked for no place, and its count of faults did not fall
+pub record AsksNoPlace (folder : FolderEffect) : Type 0 where
+  pub asked : folder.after.asked ≡ folder.before.asked
+  pub faults : folder.before.faults ≤ folder.after.faults
 
 -- the bytes were added, and the next ones made
-pub record StepDone (next : Type 0) (name bytes : List ℕ) (before after : Option Files) : Type 0 where
-  pub added : after ≡ option_map (with_appended name bytes) before
+pub record StepDone (next : Type 0) (name bytes : List ℕ) (folder : FolderEffect) : Type 0 where
+  pub added : folder.after.files ≡ option_map (with_appended name bytes) folder.before.files
   pub made : next
 
 -- a prefix of the bytes was added, and some of the file was read. The step failed only where one of the counts rose
-pub record StepStopped (tried risen : Type 0) (name bytes : List ℕ) (before after : Option Files) (faults_before faults_after : ℕ) (e : StoreError) : Type 0 where
+pub record StepStopped (tried risen : Type 0) (name bytes : List ℕ) (folder : FolderEffect) (e : StoreError) : Type 0 where
   pub part : ℕ
-  pub held : after ≡ option_map (with_appended name (take part bytes)) before
+  pub held : folder.after.files ≡ option_map (with_appended name (take part bytes)) folder.before.files
   pub read : tried
-  pub rose : e ≡ Failed → IsThere before name → Rose faults_before faults_after ⊎ risen
+  pub rose : e ≡ Failed → IsThere folder.before.files name → Rose folder.before.faults folder.after.faults ⊎ risen
   pub outside : IsOutsideRefusal e
 
 -- the step of a store
-abbrev pub Steps : {T : Type 0} → Type 0 → Type 0 → Type 0 → List ℕ → List ℕ → Option Files → Option Files → ℕ → ℕ → Result T StoreError → Type 0
-Steps next tried risen name bytes before after faults_before faults_after (Ok _) = StepDone next name bytes before after
-Steps next tried risen name bytes before after faults_before faults_after (Err e) =
-    StepStopped tried risen name bytes before after faults_before faults_after e
+abbrev pub Steps : {T : Type 0} → Type 0 → Type 0 → Type 0 → List ℕ → List ℕ → FolderEffect → Result T StoreError → Type 0
+Steps next tried risen name bytes folder (Ok _) = StepDone next name bytes folder
+Steps next tried risen name bytes folder (Err e) = StepStopped tried risen name bytes folder e

@@ -2,13 +2,14 @@
 ghost use Rattle.std.specs.Prelude.{◌≡◌, ◌⊎◌, ◌+◌, ◌*◌, ◌≤◌, length, vec_len, IfOk};
 ghost use Rattle.std.specs.Thread.{IsSend, IsSync};
 ghost use Rattle.vt_definitions.specs.Depths.{texel_length};
+ghost use Rattle.vt_outside.specs.Effects.{folder_effect};
 ghost use Rattle.vt_ppm.specs.Format.{depth_of};
 ghost use Rattle.vt_ppm.specs.StripPlaces.{strip_rows};
 ghost use Rattle.vt_ppm.specs.Strips.{row_length};
 ghost use Rattle.vt_pages.specs.Pages.{columns_at};
 ghost use Rattle.vt_tiles.specs.Format.{tile_length};
-ghost use Rattle.vt_store.specs.Steps.{AddsBytes};
-ghost use Rattle.vt_store.specs.StripSteps.{IsNextStrip, KeepsStrips, ReadsStrip, StripStep, strips_state};
+ghost use Rattle.vt_store.specs.Steps.{AddsBytes, AsksNoPlace};
+ghost use Rattle.vt_store.specs.StripSteps.{IsNextStrip, KeepsStep, KeepsStrips, ReadsStrip, StripStep, strips_state};
 
 use crate::strip::{finish_strip, make_strip, read_strip, strip_size};
 use std::alloc::Global;
@@ -42,9 +43,8 @@ pub(crate) fn add_row<D: Folder>(
     name: &str,
     tiles: &[u8],
 ) -> Result<(), OutsideError>
-    ensures added { AddsBytes name.now tiles.now (D.files folder.old) (D.files folder.new) (D.faults folder.old) (D.faults folder.new) result }
-    ensures asked { D.asked folder.new ≡ D.asked folder.old }
-    ensures faults { D.faults folder.old ≤ D.faults folder.new }
+    ensures added { AddsBytes name.now tiles.now (folder_effect D.Folder folder.old folder.new) result }
+    ensures asks { AsksNoPlace (folder_effect D.Folder folder.old folder.new) }
 {
     folder.append(name, tiles)
 }
@@ -66,11 +66,9 @@ fn step_in_turn<Rt: Threads + Sync, F: File, D: Folder>(
     requires rows { length rows.old ≡ geometry.now.tile * (texel_length (depth_of chain.old.header.maximum) * geometry.now.width) }
     requires tiles { length tiles.old ≡ columns_at geometry.now 0 * tile_length geometry.now (depth_of chain.old.header.maximum) }
     ensures step { StripStep geometry.now strip name.now tiles.old tiles.new (strips_state F.File chain.old half.old) (strips_state F.File chain.new half.new)
-        (D.files folder.old) (D.files folder.new) (D.faults folder.old) (D.faults folder.new) result }
-    ensures kept { KeepsStrips (strips_state F.File chain.old half.old) (strips_state F.File chain.new half.new) }
-    ensures spare { F.spare chain.old.file ≤ F.spare chain.new.file + 1 }
-    ensures asked { D.asked folder.new ≡ D.asked folder.old }
-    ensures faults { D.faults folder.old ≤ D.faults folder.new }
+        (folder_effect D.Folder folder.old folder.new) result }
+    ensures kept { KeepsStep (strips_state F.File chain.old half.old) (strips_state F.File chain.new half.new)
+        (folder_effect D.Folder folder.old folder.new) }
 {
     add_row(folder, name, tiles)?;
     make_strip(rt, threads, chain, geometry, strip, rows, tiles, half)?;
@@ -95,9 +93,8 @@ fn add_and_read<Rt: Threads + Sync, F: File + Send, D: Folder>(
     ensures read { ReadsStrip geometry.now strip (strips_state F.File chain.old half.old) (strips_state F.File chain.new half.new) rows.new result.0 }
     ensures kept { KeepsStrips (strips_state F.File chain.old half.old) (strips_state F.File chain.new half.new) }
     ensures spare { F.spare chain.old.file ≤ F.spare chain.new.file + 1 }
-    ensures added { AddsBytes name.now tiles.now (D.files folder.old) (D.files folder.new) (D.faults folder.old) (D.faults folder.new) result.1 }
-    ensures asked { D.asked folder.new ≡ D.asked folder.old }
-    ensures faults { D.faults folder.old ≤ D.faults folder.new }
+    ensures added { AddsBytes name.now tiles.now (folder_effect D.Folder folder.old folder.new) result.1 }
+    ensures asks { AsksNoPlace (folder_effect D.Folder folder.old folder.new) }
 {
     join_mut(
         rt,
@@ -110,9 +107,8 @@ fn add_and_read<Rt: Threads + Sync, F: File + Send, D: Folder>(
                 × (F.spare chain.entry.now.file ≤ F.spare chain.exit.now.file + 1) }
         { read_strip(rt, threads, chain, geometry, strip, rows, half) },
         &mut || -> Result<(), OutsideError>
-            ensures { AddsBytes name.entry.now tiles.entry.now (D.files folder.entry.now) (D.files folder.exit.now) (D.faults folder.entry.now)
-                (D.faults folder.exit.now) result
-                × (D.asked folder.exit.now ≡ D.asked folder.entry.now) × (D.faults folder.entry.now ≤ D.faults folder.exit.now) }
+            ensures { AddsBytes name.entry.now tiles.entry.now (folder_effect D.Folder folder.entry.now folder.exit.now) result
+                × AsksNoPlace (folder_effect D.Folder folder.entry.now folder.exit.now) }
         { add_row(folder, name, tiles) },
     )
 }
@@ -135,11 +131,9 @@ fn step_at_once<Rt: Threads + Sync, F: File + Send, D: Folder>(
     requires rows { length rows.old ≡ geometry.now.tile * (texel_length (depth_of chain.old.header.maximum) * geometry.now.width) }
     requires room { length next.old ≡ columns_at geometry.now 0 * tile_length geometry.now (depth_of chain.old.header.maximum) }
     ensures step { StripStep geometry.now strip name.now tiles.now next.new (strips_state F.File chain.old half.old) (strips_state F.File chain.new half.new)
-        (D.files folder.old) (D.files folder.new) (D.faults folder.old) (D.faults folder.new) result }
-    ensures kept { KeepsStrips (strips_state F.File chain.old half.old) (strips_state F.File chain.new half.new) }
-    ensures spare { F.spare chain.old.file ≤ F.spare chain.new.file + 1 }
-    ensures asked { D.asked folder.new ≡ D.asked folder.old }
-    ensures faults { D.faults folder.old ≤ D.faults folder.new }
+        (folder_effect D.Folder folder.old folder.new) result }
+    ensures kept { KeepsStep (strips_state F.File chain.old half.old) (strips_state F.File chain.new half.new)
+        (folder_effect D.Folder folder.old folder.new) }
 {
     let size = strip_size(chain, geometry, strip);
     let room = &mut rows[..size];
@@ -173,13 +167,11 @@ pub(crate) fn write_next<Rt: Threads + Sync, F: File + Send, D: Folder>(
     requires front { vec_len front.old ≡ columns_at geometry.now 0 * tile_length geometry.now (depth_of chain.old.header.maximum) }
     requires back { (vec_len back.old ≡ 0) ⊎ (vec_len back.old ≡ vec_len front.old) }
     ensures step { StripStep geometry.now strip name.now front.old.items front.new.items (strips_state F.File chain.old half.old)
-        (strips_state F.File chain.new half.new) (D.files folder.old) (D.files folder.new) (D.faults folder.old) (D.faults folder.new) result }
-    ensures kept { KeepsStrips (strips_state F.File chain.old half.old) (strips_state F.File chain.new half.new) }
-    ensures spare { F.spare chain.old.file ≤ F.spare chain.new.file + 1 }
+        (strips_state F.File chain.new half.new) (folder_effect D.Folder folder.old folder.new) result }
+    ensures kept { KeepsStep (strips_state F.File chain.old half.old) (strips_state F.File chain.new half.new)
+        (folder_effect D.Folder folder.old folder.new) }
     ensures front { vec_len front.new ≡ vec_len front.old }
     ensures back { vec_len back.new ≡ vec_len back.old }
-    ensures asked { D.asked folder.new ≡ D.asked folder.old }
-    ensures faults { D.faults folder.old ≤ D.faults folder.new }
 {
     if back.is_empty() {
         return step_in_turn(

@@ -1,20 +1,19 @@
 //! A strip of a texture: as many whole rows as a tile has, of which a row of tiles and rows of level 1 are made.
-ghost use Rattle.std.specs.Prelude.{◌≡◌, ◌⊎◌, ◌+◌, ◌*◌, ◌%◌, ◌<◌, ◌≤◌, length, IfSome, OnOk, IsErr, is_err};
+ghost use Rattle.std.specs.Prelude.{◌≡◌, ◌⊎◌, ◌+◌, ◌*◌, ◌%◌, ◌<◌, ◌≤◌, length};
 ghost use Rattle.std.specs.Thread.{IsSync};
 ghost use Rattle.vt_definitions.specs.Depths.{IsDepth, texel_length};
 ghost use Rattle.vt_definitions.specs.Texels.{Source};
-ghost use Rattle.vt_outside.specs.Counts.{Rose};
 ghost use Rattle.vt_outside.specs.Files.{IsPiece};
 ghost use Rattle.vt_ppm.specs.Format.{depth_of};
 ghost use Rattle.vt_ppm.specs.StripPlaces.{strip_rows};
 ghost use Rattle.vt_ppm.specs.Image.{ImageView};
-ghost use Rattle.vt_ppm.specs.Strips.{row_length, sample_rows, IsTextureIfKnown, RowsAsked};
+ghost use Rattle.vt_ppm.specs.Strips.{row_length};
 ghost use Rattle.vt_mip.specs.TakenRows.{HalvesFront};
 ghost use Rattle.vt_pages.specs.Shape.{shape_of};
 ghost use Rattle.vt_pages.specs.Pages.{columns_at, name_at, pages_of, rows_at};
 ghost use Rattle.vt_tiles.specs.Format.{tile_length, tiles_bytes};
 ghost use Rattle.vt_tiles.specs.TileLines.{HasTileRows, tile_rows_length};
-ghost use Rattle.vt_store.specs.StripSteps.{IsNextStrip, IsStripThere, KeepsStrips, MakesStrip, ReadsStrip, StripMade, StripRead, StripsState, strips_state};
+ghost use Rattle.vt_store.specs.StripSteps.{IsNextStrip, IsStripThere, KeepsHalf, KeepsStrips, MakesStrip, ReadsRows, ReadsStrip, StripMade, StripRead, StripsState, rows_state, strips_state};
 
 use crate::write::{put_tiles, tile_columns};
 use std::thread::{Threads, join_mut};
@@ -97,21 +96,8 @@ fn read_rows<Rt: Threads + Sync, F: File>(
     requires inside { y + count ≤ chain.old.header.height }
     requires size { length rows.old ≡ count * row_length chain.old.header }
     requires room { half.old.taken + count ≤ half.old.height }
-    ensures rows { OnOk result (IfSome (F.bytes chain.old.file) (λ b. rows.new ≡ sample_rows chain.old.header b y count)) }
-    ensures texture { IsTextureIfKnown (F.bytes chain.old.file) chain.old.header }
-    ensures failed { IsErr result → Rose (F.faults chain.old.file) (F.faults chain.new.file) }
-    ensures asked { RowsAsked chain.old.header y count (is_err result) (F.asked chain.old.file) (F.asked chain.new.file) }
-    ensures spare { F.spare chain.old.file ≤ F.spare chain.new.file + 1 }
-    ensures bytes { F.bytes chain.new.file ≡ F.bytes chain.old.file }
-    ensures name { F.name chain.new.file ≡ F.name chain.old.file }
-    ensures faults { F.faults chain.old.file ≤ F.faults chain.new.file }
-    ensures header { chain.new.header ≡ chain.old.header }
-    ensures tile { chain.new.tile ≡ chain.old.tile }
-    ensures taken { half.new.taken ≡ half.old.taken }
-    ensures depth { half.new.depth ≡ half.old.depth }
-    ensures width { half.new.width ≡ half.old.width }
-    ensures height { half.new.height ≡ half.old.height }
-    ensures halves { (p : ImageView) → HalvesFront p half.old → HalvesFront p half.new }
+    ensures read { ReadsRows y count (rows_state F.File chain.old) (rows_state F.File chain.new) rows.new result }
+    ensures half { KeepsHalf half.old half.new }
 {
     if threads < 3 {
         return chain.rows(y, count, rows);
@@ -122,21 +108,12 @@ fn read_rows<Rt: Threads + Sync, F: File>(
         rt,
         &mut || -> ()
             requires { half.now.taken + more ≤ half.now.height }
-            ensures { (half.exit.now.taken ≡ half.entry.now.taken) × (half.exit.now.depth ≡ half.entry.now.depth)
-                × (half.exit.now.width ≡ half.entry.now.width) × (half.exit.now.height ≡ half.entry.now.height)
-                × ((p : ImageView) → HalvesFront p half.entry.now → HalvesFront p half.exit.now) }
+            ensures { KeepsHalf half.entry.now half.exit.now }
         { half.make_room(more) },
         &mut || -> Result<(), Failed>
             requires { (1 ≤ F.spare chain.now.file) × (y + count ≤ chain.now.header.height)
                 × (length rows.now ≡ count * row_length chain.now.header) }
-            ensures { OnOk result (IfSome (F.bytes chain.entry.now.file) (λ b. rows.exit.now ≡ sample_rows chain.entry.now.header b y count))
-                × IsTextureIfKnown (F.bytes chain.entry.now.file) chain.entry.now.header
-                × (IsErr result → Rose (F.faults chain.entry.now.file) (F.faults chain.exit.now.file))
-                × RowsAsked chain.entry.now.header y count (is_err result) (F.asked chain.entry.now.file) (F.asked chain.exit.now.file)
-                × (F.spare chain.entry.now.file ≤ F.spare chain.exit.now.file + 1)
-                × (F.bytes chain.exit.now.file ≡ F.bytes chain.entry.now.file) × (F.name chain.exit.now.file ≡ F.name chain.entry.now.file)
-                × (F.faults chain.entry.now.file ≤ F.faults chain.exit.now.file)
-                × (chain.exit.now.header ≡ chain.entry.now.header) × (chain.exit.now.tile ≡ chain.entry.now.tile) }
+            ensures { ReadsRows y count (rows_state F.File chain.entry.now) (rows_state F.File chain.exit.now) rows.exit.now result }
         { chain.rows(y, count, rows) },
     );
     read

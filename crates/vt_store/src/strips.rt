@@ -2,6 +2,7 @@
 ghost use Rattle.std.specs.Prelude.{◌≡◌, ℕ, ◌+◌, ◌*◌, ◌<◌, ◌≤◌, ◌⊎◌, List, Option, length, vec_len, IfOk, IfErr, OnOk, OnErr, IsErrOf};
 ghost use Rattle.vt_definitions.specs.Depths.{IsDepth, texel_length};
 ghost use Rattle.vt_outside.specs.Counts.{Rose};
+ghost use Rattle.vt_outside.specs.Effects.{folder_effect};
 ghost use Rattle.vt_ppm.specs.Format.{depth_of};
 ghost use Rattle.vt_pages.specs.Pages.{IsWithinLimits, columns_at, rows_at};
 ghost use Rattle.vt_tiles.specs.Format.{tile_length};
@@ -9,7 +10,8 @@ ghost use Rattle.vt_tiles.specs.Refusals.{IsOutsideRefusal};
 ghost use Rattle.vt_tiles.specs.Made.{HoldsMade, HoldsMadeFront};
 ghost use Rattle.vt_store.specs.StripStores.{IsStripRoom, strip_shape, strip_store};
 ghost use Rattle.vt_ppm.specs.StripPlaces.{StripsAsked, StripsTried, strips_of};
-ghost use Rattle.vt_store.specs.StripSteps.{AddsStrips, IsNextStrip, KeepsStrips, strips_state};
+ghost use Rattle.vt_store.specs.Steps.{AsksNoPlace};
+ghost use Rattle.vt_store.specs.StripSteps.{AddsStrips, IsNextStrip, KeepsRows, KeepsStrips, WritesStore, rows_state, strips_state};
 
 use crate::levels::write_levels;
 use crate::steps::{add_row, tile_rooms, write_next};
@@ -54,11 +56,10 @@ fn write_first_level<Rt: Threads + Sync, F: File + Send, D: Folder>(
     requires front { vec_len front.old ≡ columns_at geometry.now 0 * tile_length geometry.now (depth_of chain.old.header.maximum) }
     requires back { (vec_len back.old ≡ 0) ⊎ (vec_len back.old ≡ vec_len front.old) }
     ensures level { AddsStrips geometry.now name.now (strips_state F.File chain.old half.old) (strips_state F.File chain.new half.new)
-        (D.files folder.old) (D.files folder.new) (D.faults folder.old) (D.faults folder.new) result }
+        (folder_effect D.Folder folder.old folder.new) result }
     ensures kept { KeepsStrips (strips_state F.File chain.old half.old) (strips_state F.File chain.new half.new) }
     ensures front { vec_len front.new ≡ vec_len front.old }
-    ensures asked { D.asked folder.new ≡ D.asked folder.old }
-    ensures faults { D.faults folder.old ≤ D.faults folder.new }
+    ensures asks { AsksNoPlace (folder_effect D.Folder folder.old folder.new) }
 {
     let last = strip_count(geometry) - 1;
     make_strip(
@@ -136,22 +137,10 @@ fn write_in_room<Rt: Threads + Sync, F: File + Send, D: Folder>(
     requires shape { strip_shape chain.old ≡ geometry.now }
     requires spare { rows_at geometry.now 0 ≤ F.spare chain.old.file }
     requires room { IsStripRoom geometry.now (depth_of chain.old.header.maximum) room }
-    ensures whole { OnOk result (HoldsMade (F.bytes chain.old.file) (strip_store chain.old) name.now (D.files folder.old) (D.files folder.new)) }
-    ensures part { OnErr result ((D.files folder.new ≡ D.files folder.old)
-        ⊎ HoldsMadeFront (F.bytes chain.old.file) (strip_store chain.old) name.now (D.files folder.old) (D.files folder.new)) }
-    ensures refusals { IfErr result IsOutsideRefusal }
-    ensures failed { IsErrOf result StoreError.Failed
-        → Rose (D.faults folder.old) (D.faults folder.new) ⊎ Rose (F.faults chain.old.file) (F.faults chain.new.file) }
-    ensures all_read { OnOk result (StripsAsked chain.old.header geometry.now.tile (strips_of chain.old.header geometry.now.tile)
-        (F.asked chain.old.file) (F.asked chain.new.file)) }
-    ensures front_read { OnErr result (StripsTried chain.old.header geometry.now.tile (F.asked chain.old.file) (F.asked chain.new.file)) }
-    ensures bytes { F.bytes chain.new.file ≡ F.bytes chain.old.file }
-    ensures name { F.name chain.new.file ≡ F.name chain.old.file }
-    ensures header { chain.new.header ≡ chain.old.header }
-    ensures tile { chain.new.tile ≡ chain.old.tile }
-    ensures file_faults { F.faults chain.old.file ≤ F.faults chain.new.file }
-    ensures asked { D.asked folder.new ≡ D.asked folder.old }
-    ensures faults { D.faults folder.old ≤ D.faults folder.new }
+    ensures written { WritesStore geometry.now name.now (strip_store chain.old) (rows_state F.File chain.old) (rows_state F.File chain.new)
+        (folder_effect D.Folder folder.old folder.new) result }
+    ensures kept { KeepsRows (rows_state F.File chain.old) (rows_state F.File chain.new) }
+    ensures asks { AsksNoPlace (folder_effect D.Folder folder.old folder.new) }
 {
     let StripRoom {
         mut rows,

@@ -46,15 +46,15 @@ returns-clause-read g c =
     let h = c.args.chain.now.header in
     record {
       read = asked_at h c.args.geometry.now.tile c.args.strip (c.args.strip * c.tile-side.result) c.min-count.result false
-          (g.F.File.asked c.args.chain.now.file) (g.F.File.asked c.read_rows.new.chain.file) is.place is.counts c.in_ok-read_rows.ensures.asked;
-      texture = c.read_rows.ensures.texture;
+          (g.F.File.asked c.args.chain.now.file) (g.F.File.asked c.read_rows.new.chain.file) is.place is.counts c.in_ok-read_rows.ensures.read.asked;
+      texture = c.read_rows.ensures.read.texture;
       rows = rows_of_known (g.F.File.bytes c.args.chain.now.file) h c.args.geometry.now.tile c.args.strip (c.args.strip * c.tile-side.result)
-          c.min-count.result c.read_rows.new.rows is.place is.counts c.in_ok-read_rows.ensures.rows;
-      halves = c.read_rows.ensures.halves;
-      taken = c.read_rows.ensures.taken;
-      depth = c.read_rows.ensures.depth;
-      width = c.read_rows.ensures.width;
-      height = c.read_rows.ensures.height;
+          c.min-count.result c.read_rows.new.rows is.place is.counts c.in_ok-read_rows.ensures.read.read;
+      halves = c.read_rows.ensures.half.halves;
+      taken = c.read_rows.ensures.half.taken;
+      depth = c.read_rows.ensures.half.depth;
+      width = c.read_rows.ensures.half.width;
+      height = c.read_rows.ensures.half.height;
     }
 
 pub returns-in_err-read_rows-clause-read : goal.returns-in_err-read_rows-clause-read
@@ -66,30 +66,18 @@ returns-in_err-read_rows-clause-read g c =
     is_lost _ _ c.from_residual.result _ c.from_residual.ensures.1
     (record {
       read = asked_at c.args.chain.now.header c.args.geometry.now.tile c.args.strip (c.args.strip * c.tile-side.result) c.min-count.result true
-          (g.F.File.asked c.args.chain.now.file) (g.F.File.asked c.read_rows.new.chain.file) is.place is.counts c.in_err-read_rows.ensures.asked;
-      rose = c.in_err-read_rows.ensures.failed refl;
+          (g.F.File.asked c.args.chain.now.file) (g.F.File.asked c.read_rows.new.chain.file) is.place is.counts c.in_err-read_rows.ensures.read.asked;
+      rose = c.in_err-read_rows.ensures.read.failed refl;
     })
 
 pub returns-clause-kept : goal.returns-clause-kept
-returns-clause-kept g c = record {
-  known = c.read_rows.ensures.bytes;
-  called = c.read_rows.ensures.name;
-  header = c.read_rows.ensures.header;
-  tile = c.read_rows.ensures.tile;
-  faults = c.read_rows.ensures.faults;
-}
+returns-clause-kept g c = c.read_rows.ensures.read.kept
 
 pub returns-in_err-read_rows-clause-kept : goal.returns-in_err-read_rows-clause-kept
-returns-in_err-read_rows-clause-kept g c = record {
-  known = c.read_rows.ensures.bytes;
-  called = c.read_rows.ensures.name;
-  header = c.read_rows.ensures.header;
-  tile = c.read_rows.ensures.tile;
-  faults = c.read_rows.ensures.faults;
-}
+returns-in_err-read_rows-clause-kept g c = c.read_rows.ensures.read.kept
 
 pub returns-clause-spare : goal.returns-clause-spare
-returns-clause-spare g c = c.read_rows.ensures.spare
+returns-clause-spare g c = c.read_rows.ensures.read.spare
 
 pub returns-in_err-read_rows-clause-spare : goal.returns-in_err-read_rows-clause-spare
-returns-in_err-read_rows-clause-spare g c = c.read_rows.ensures.spare
+returns-in_err-read_rows-clause-spare g c = c.read_rows.ensures.read.spare

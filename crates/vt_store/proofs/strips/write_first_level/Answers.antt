@@ -2,29 +2,27 @@ use Rattle.std.proofs.Common.{◌≡◌, ℕ, ◌+◌, ◌*◌, inl, inr, List, 
 use Rattle.std.proofs.lemmas.List.{with_items_is}
 use Rattle.std.specs.Prelude.{option_map}
 use Rattle.vt_definitions.specs.Depths.{texel_length}
+use Rattle.vt_outside.specs.Effects.{folder_effect, folder_state}
 use Rattle.vt_outside.specs.Files.{with_appended}
 use Rattle.vt_ppm.specs.declared.header.Header.{Header}
 use Rattle.vt_ppm.specs.Format.{depth_of}
 use Rattle.vt_pages.specs.Pages.{columns_at, rows_at}
 use Rattle.vt_tiles.specs.Format.{tile_length}
 use Rattle.vt_store.specs.StripSteps.{strips_state}
-use Rattle.vt_store.proofs.WideStores.{no_less}
 use Rattle.vt_store.proofs.OneStep.{front_in}
-use Rattle.vt_store.proofs.StripSteps.{IsAhead, keeps_on, first_lost, ahead_begun, ahead_next, ahead_more, ahead_stopped, stopped_by, last_refused, last_added}
+use Rattle.vt_store.proofs.StripSteps.{IsAhead, between, asks_none, asks_on, keeps_on, first_lost, ahead_begun, ahead_next, ahead_more, ahead_stopped, stopped_by, last_refused, last_added}
 use Rattle.vt_store.proofs.strips.write_first_level.Goals as goal
 
 pub loop-strip-init : goal.loop-strip-init
 loop-strip-init g c =
     let a = strips_state g.F.File c.args.chain.now c.args.half.now in
     let b = strips_state g.F.File c.make_strip.new.chain c.make_strip.new.half in
-    let f = g.D.Folder.files c.args.folder.now in
-    let m = g.D.Folder.faults c.args.folder.now in
+    let f = folder_state g.D.Folder c.args.folder.now in
     let made = with_items_is c.args.front.now c.make_strip.new.tiles (c.make_strip.auto.tiles ∙ c.as_mut_slice.ensures.len) in
     record {
-      ahead = subst (λ (l : List ℕ). IsAhead c.args.geometry.now c.args.name.now 0 a b f f m m l) (sym made)
-          (ahead_begun c.args.geometry.now c.args.name.now a c.requires.first c.strip_count-last.ensures.limits b f m c.make_strip.new.tiles
+      ahead = subst (λ (l : List ℕ). IsAhead c.args.geometry.now c.args.name.now 0 a b (between f f) l) (sym made)
+          (ahead_begun c.args.geometry.now c.args.name.now a c.requires.first c.strip_count-last.ensures.limits b f c.make_strip.new.tiles
           c.requires.spare c.in_ok-make_strip.ensures.made c.make_strip.ensures.kept c.make_strip.ensures.spare);
-      asked = refl;
       front = refl;
       back = refl;
     }
@@ -35,13 +33,10 @@ loop-strip-preserved g c =
     record {
       ahead = ahead_more c.args.geometry.now c.args.name.now (strips_state g.F.File c.args.chain.now c.args.half.now) c.requires.first
           c.strip_count-last.ensures.limits c.loop-strip.strip (strips_state g.F.File c.loop-strip.chain c.loop-strip.half)
-          (g.D.Folder.files c.args.folder.now) (g.D.Folder.files c.loop-strip.folder) (g.D.Folder.faults c.args.folder.now)
-          (g.D.Folder.faults c.loop-strip.folder) c.loop-strip.front.items i.ahead
-          (strips_state g.F.File c.write_next.new.chain c.write_next.new.half) (g.D.Folder.files c.write_next.new.folder)
-          (g.D.Folder.faults c.write_next.new.folder) c.write_next.new.front.items
-          (omega (arith, c.loop-strip-test.true, c.strip_count-last.ensures.count, c.strip_count-last.ensures.some)) c.in_ok-write_next.ensures.step
-          c.write_next.ensures.kept c.write_next.ensures.spare c.write_next.ensures.faults;
-      asked = c.write_next.ensures.asked ∙ i.asked;
+          (folder_state g.D.Folder c.args.folder.now) (folder_state g.D.Folder c.loop-strip.folder) c.loop-strip.front.items i.ahead
+          (strips_state g.F.File c.write_next.new.chain c.write_next.new.half) (folder_state g.D.Folder c.write_next.new.folder)
+          c.write_next.new.front.items (omega (arith, c.loop-strip-test.true, c.strip_count-last.ensures.count, c.strip_count-last.ensures.some))
+          c.in_ok-write_next.ensures.step c.write_next.ensures.kept;
       front = c.write_next.ensures.front ∙ i.front;
       back = c.write_next.ensures.back ∙ i.back;
     }
@@ -50,10 +45,12 @@ pub returns-in_err-make_strip-clause-level : goal.returns-in_err-make_strip-clau
 returns-in_err-make_strip-clause-level g c =
     let a = strips_state g.F.File c.args.chain.now c.args.half.now in
     let b = strips_state g.F.File c.make_strip.new.chain c.make_strip.new.half in
-    let f = g.D.Folder.files c.args.folder.now in
-    let m = g.D.Folder.faults c.args.folder.now in
-    stopped_by c.args.geometry.now c.args.name.now a b f f m m c.from_residual.result _ c.from_residual.ensures.1
-    (first_lost c.args.geometry.now c.args.name.now a c.requires.first c.strip_count-last.ensures.limits b f m c.in_err-make_strip.ensures.made)
+    let f = folder_state g.D.Folder c.args.folder.now in
+    stopped_by c.args.geometry.now c.args.name.now a b (between f f) c.from_residual.result _ c.from_residual.ensures.1
+    (first_lost c.args.geometry.now c.args.name.now a c.requires.first c.strip_count-last.ensures.limits b f c.in_err-make_strip.ensures.made)
+
+pub returns-in_err-make_strip-clause-asks : goal.returns-in_err-make_strip-clause-asks
+returns-in_err-make_strip-clause-asks g c = asks_none (folder_state g.D.Folder c.args.folder.now)
 
 pub returns-in_err-make_strip-clause-kept : goal.returns-in_err-make_strip-clause-kept
 returns-in_err-make_strip-clause-kept g c = c.make_strip.ensures.kept
@@ -62,42 +59,36 @@ pub returns-in_err-write_next-clause-level : goal.returns-in_err-write_next-clau
 returns-in_err-write_next-clause-level g c =
     let a = strips_state g.F.File c.args.chain.now c.args.half.now in
     let e = strips_state g.F.File c.write_next.new.chain c.write_next.new.half in
-    let f = g.D.Folder.files c.args.folder.now in
-    let h = g.D.Folder.files c.write_next.new.folder in
-    let m = g.D.Folder.faults c.args.folder.now in
-    let l = g.D.Folder.faults c.write_next.new.folder in
-    stopped_by c.args.geometry.now c.args.name.now a e f h m l c.from_residual-in_err-write_next.result _ c.from_residual-in_err-write_next.ensures.1
+    let f = folder_state g.D.Folder c.args.folder.now in
+    let h = folder_state g.D.Folder c.write_next.new.folder in
+    stopped_by c.args.geometry.now c.args.name.now a e (between f h) c.from_residual-in_err-write_next.result _ c.from_residual-in_err-write_next.ensures.1
     (ahead_stopped c.args.geometry.now c.args.name.now a c.requires.first c.strip_count-last.ensures.limits c.loop-strip.strip
-    (strips_state g.F.File c.loop-strip.chain c.loop-strip.half) f (g.D.Folder.files c.loop-strip.folder) m (g.D.Folder.faults c.loop-strip.folder)
-    c.loop-strip.front.items c.loop-strip.invariant.ahead e h l _
+    (strips_state g.F.File c.loop-strip.chain c.loop-strip.half) f (folder_state g.D.Folder c.loop-strip.folder)
+    c.loop-strip.front.items c.loop-strip.invariant.ahead e h _
     (omega (arith, c.loop-strip-test.true, c.strip_count-last.ensures.count, c.strip_count-last.ensures.some)) c.in_err-write_next.ensures.step)
 
 pub returns-in_err-write_next-clause-kept : goal.returns-in_err-write_next-clause-kept
 returns-in_err-write_next-clause-kept g c =
     keeps_on (strips_state g.F.File c.args.chain.now c.args.half.now) (strips_state g.F.File c.loop-strip.chain c.loop-strip.half)
-    (strips_state g.F.File c.write_next.new.chain c.write_next.new.half) c.loop-strip.invariant.ahead.kept c.write_next.ensures.kept
+    (strips_state g.F.File c.write_next.new.chain c.write_next.new.half) c.loop-strip.invariant.ahead.kept c.write_next.ensures.kept.strips
 
 pub returns-in_err-write_next-clause-front : goal.returns-in_err-write_next-clause-front
 returns-in_err-write_next-clause-front g c = c.write_next.ensures.front ∙ c.loop-strip.invariant.front
 
-pub returns-in_err-write_next-clause-asked : goal.returns-in_err-write_next-clause-asked
-returns-in_err-write_next-clause-asked g c = c.write_next.ensures.asked ∙ c.loop-strip.invariant.asked
-
-pub returns-in_err-write_next-clause-faults : goal.returns-in_err-write_next-clause-faults
-returns-in_err-write_next-clause-faults g c =
-    no_less (g.D.Folder.faults c.args.folder.now) (g.D.Folder.faults c.loop-strip.folder) (g.D.Folder.faults c.write_next.new.folder)
-    c.loop-strip.invariant.ahead.faults c.write_next.ensures.faults
+pub returns-in_err-write_next-clause-asks : goal.returns-in_err-write_next-clause-asks
+returns-in_err-write_next-clause-asks g c =
+    asks_on (folder_state g.D.Folder c.args.folder.now) (folder_state g.D.Folder c.loop-strip.folder) (folder_state g.D.Folder c.write_next.new.folder)
+    c.loop-strip.invariant.ahead.asks c.write_next.ensures.kept.asks
 
 pub returns-in_err-add_row-clause-level : goal.returns-in_err-add_row-clause-level
 returns-in_err-add_row-clause-level g c =
     let all : c.loop-strip.strip + 1 ≡ rows_at c.args.geometry.now 0 = omega (arith, c.strip_count-last.ensures.count, c.strip_count-last.ensures.some) in
     last_refused c.args.geometry.now c.args.name.now (strips_state g.F.File c.args.chain.now c.args.half.now) c.requires.first
     c.strip_count-last.ensures.limits c.loop-strip.strip (strips_state g.F.File c.loop-strip.chain c.loop-strip.half)
-    (g.D.Folder.files c.args.folder.now) (g.D.Folder.files c.loop-strip.folder) (g.D.Folder.faults c.args.folder.now)
-    (g.D.Folder.faults c.loop-strip.folder) c.loop-strip.front.items c.loop-strip.invariant.ahead (g.D.Folder.files c.add_row.new.folder)
-    (g.D.Folder.faults c.add_row.new.folder) _ c.from_residual-in_err-add_row.result all c.from_residual-in_err-add_row.ensures.1
-    (front_in c.args.name.now c.as_slice.result.now c.loop-strip.front.items (g.D.Folder.files c.loop-strip.folder)
-    (g.D.Folder.files c.add_row.new.folder) (g.D.Folder.faults c.loop-strip.folder) (g.D.Folder.faults c.add_row.new.folder) _
+    (folder_state g.D.Folder c.args.folder.now) (folder_state g.D.Folder c.loop-strip.folder) c.loop-strip.front.items c.loop-strip.invariant.ahead
+    (folder_state g.D.Folder c.add_row.new.folder) _ c.from_residual-in_err-add_row.result all c.from_residual-in_err-add_row.ensures.1
+    (front_in c.args.name.now c.as_slice.result.now c.loop-strip.front.items
+    (folder_effect g.D.Folder c.loop-strip.folder c.add_row.new.folder) _
     c.as_slice.ensures.value c.in_err-add_row.ensures.added)
 
 pub returns-in_err-add_row-clause-kept : goal.returns-in_err-add_row-clause-kept
@@ -106,21 +97,18 @@ returns-in_err-add_row-clause-kept g c = c.loop-strip.invariant.ahead.kept
 pub returns-in_err-add_row-clause-front : goal.returns-in_err-add_row-clause-front
 returns-in_err-add_row-clause-front g c = c.loop-strip.invariant.front
 
-pub returns-in_err-add_row-clause-asked : goal.returns-in_err-add_row-clause-asked
-returns-in_err-add_row-clause-asked g c = c.add_row.ensures.asked ∙ c.loop-strip.invariant.asked
-
-pub returns-in_err-add_row-clause-faults : goal.returns-in_err-add_row-clause-faults
-returns-in_err-add_row-clause-faults g c =
-    no_less (g.D.Folder.faults c.args.folder.now) (g.D.Folder.faults c.loop-strip.folder) (g.D.Folder.faults c.add_row.new.folder)
-    c.loop-strip.invariant.ahead.faults c.add_row.ensures.faults
+pub returns-in_err-add_row-clause-asks : goal.returns-in_err-add_row-clause-asks
+returns-in_err-add_row-clause-asks g c =
+    asks_on (folder_state g.D.Folder c.args.folder.now) (folder_state g.D.Folder c.loop-strip.folder) (folder_state g.D.Folder c.add_row.new.folder)
+    c.loop-strip.invariant.ahead.asks c.add_row.ensures.asks
 
 pub returns-clause-level : goal.returns-clause-level
 returns-clause-level g c =
     let all : c.loop-strip.strip + 1 ≡ rows_at c.args.geometry.now 0 = omega (arith, c.strip_count-last.ensures.count, c.strip_count-last.ensures.some) in
     last_added c.args.geometry.now c.args.name.now (strips_state g.F.File c.args.chain.now c.args.half.now) c.requires.first
     c.strip_count-last.ensures.limits c.loop-strip.strip (strips_state g.F.File c.loop-strip.chain c.loop-strip.half)
-    (g.D.Folder.files c.args.folder.now) (g.D.Folder.files c.loop-strip.folder) (g.D.Folder.faults c.args.folder.now)
-    (g.D.Folder.faults c.loop-strip.folder) c.loop-strip.front.items c.loop-strip.invariant.ahead (g.D.Folder.files c.add_row.new.folder) all
+    (folder_state g.D.Folder c.args.folder.now) (folder_state g.D.Folder c.loop-strip.folder) c.loop-strip.front.items c.loop-strip.invariant.ahead
+    (folder_state g.D.Folder c.add_row.new.folder) all
     (c.in_ok-add_row.ensures.added ∙ ap (λ (t : List ℕ). option_map (with_appended c.args.name.now t) (g.D.Folder.files c.loop-strip.folder)) c.as_slice.ensures.value)
 
 pub returns-clause-kept : goal.returns-clause-kept
@@ -129,13 +117,10 @@ returns-clause-kept g c = c.loop-strip.invariant.ahead.kept
 pub returns-clause-front : goal.returns-clause-front
 returns-clause-front g c = c.loop-strip.invariant.front
 
-pub returns-clause-asked : goal.returns-clause-asked
-returns-clause-asked g c = c.add_row.ensures.asked ∙ c.loop-strip.invariant.asked
-
-pub returns-clause-faults : goal.returns-clause-faults
-returns-clause-faults g c =
-    no_less (g.D.Folder.faults c.args.folder.now) (g.D.Folder.faults c.loop-strip.folder) (g.D.Folder.faults c.add_row.new.folder)
-    c.loop-strip.invariant.ahead.faults c.add_row.ensures.faults
+pub returns-clause-asks : goal.returns-clause-asks
+returns-clause-asks g c =
+    asks_on (folder_state g.D.Folder c.args.folder.now) (folder_state g.D.Folder c.loop-strip.folder) (folder_state g.D.Folder c.add_row.new.folder)
+    c.loop-strip.invariant.ahead.asks c.add_row.ensures.asks
 
 pub make_strip-requires-clause-next : goal.make_strip-requires-clause-next
 make_strip-requires-clause-next g c κs within = c.requires.first
@@ -144,8 +129,7 @@ pub write_next-requires-clause-next : goal.write_next-requires-clause-next
 write_next-requires-clause-next g c κs within =
     ahead_next c.args.geometry.now c.args.name.now (strips_state g.F.File c.args.chain.now c.args.half.now) c.requires.first
     c.strip_count-last.ensures.limits c.loop-strip.strip (strips_state g.F.File c.loop-strip.chain c.loop-strip.half)
-    (g.D.Folder.files c.args.folder.now) (g.D.Folder.files c.loop-strip.folder) (g.D.Folder.faults c.args.folder.now)
-    (g.D.Folder.faults c.loop-strip.folder) c.loop-strip.front.items c.loop-strip.invariant.ahead
+    (folder_state g.D.Folder c.args.folder.now) (folder_state g.D.Folder c.loop-strip.folder) c.loop-strip.front.items c.loop-strip.invariant.ahead
     (omega (arith, c.loop-strip-test.true, c.strip_count-last.ensures.count, c.strip_count-last.ensures.some))
 
 pub write_next-requires-clause-rows : goal.write_next-requires-clause-rows

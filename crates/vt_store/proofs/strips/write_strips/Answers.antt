@@ -1,6 +1,7 @@
 use Rattle.std.proofs.Common.{◌≡◌, ℕ, ◌⊎◌, inl, List, Option, refl, ◌∙◌, subst, arith}
 use Rattle.std.specs.Prelude.{OnOk, OnErr}
 use Rattle.vt_outside.specs.Counts.{Rose}
+use Rattle.vt_outside.specs.Effects.{folder_effect}
 use Rattle.vt_outside.specs.declared.place.Place.{Place}
 use Rattle.vt_outside.proofs.UnknownContents.{OnErr-all}
 use Rattle.vt_outside.proofs.Refusing.{none_made, no_fewer}
@@ -10,9 +11,12 @@ use Rattle.vt_ppm.specs.StripPlaces.{strips_of, StripsAsked, StripsTried}
 use Rattle.vt_tiles.specs.Made.{HoldsMade, HoldsMadeFront}
 use Rattle.vt_tiles.proofs.Refusing.{by_memory, no_fault}
 use Rattle.vt_store.specs.ChainStores.{texture_store}
+use Rattle.vt_store.specs.StripStores.{strip_store}
+use Rattle.vt_store.specs.StripSteps.{rows_state}
 use Rattle.vt_store.proofs.WideStores.{no_less}
 use Rattle.vt_store.proofs.StripStores.{seen_at}
 use Rattle.vt_ppm.proofs.StripPlaces.{no_strips, strips_front}
+use Rattle.vt_store.proofs.Written.{seen_failed, seen_part, seen_read, seen_refusal, seen_tried, seen_whole}
 use Rattle.vt_store.proofs.strips.write_strips.Goals as goal
 
 pub returns-in_err-reserve-clause-whole : goal.returns-in_err-reserve-clause-whole
@@ -104,51 +108,73 @@ returns-in_err-room-clause-faults g c = no_fewer _ _ refl
 pub returns-clause-whole : goal.returns-clause-whole
 returns-clause-whole g c =
     seen_at (λ (known : Option (List ℕ)) (h : Header) (side : ℕ). OnOk c.write_in_room.result (HoldsMade known (λ b. texture_store (texture_of h b) side)
-    c.args.name.now (g.D.Folder.files c.args.folder.now) (g.D.Folder.files c.write_in_room.new.folder))) c.reserve.ensures.bytes c.reserve.ensures.header c.reserve.ensures.tile c.write_in_room.ensures.whole
+    c.args.name.now (g.D.Folder.files c.args.folder.now) (g.D.Folder.files c.write_in_room.new.folder)))
+    c.reserve.ensures.bytes c.reserve.ensures.header c.reserve.ensures.tile
+    (seen_whole c.args.geometry.now c.args.name.now (strip_store c.reserve.new.self) (rows_state g.F.File c.reserve.new.self)
+    (rows_state g.F.File c.write_in_room.new.chain) (folder_effect g.D.Folder c.args.folder.now c.write_in_room.new.folder) c.write_in_room.result
+    c.write_in_room.ensures.written)
 
 pub returns-clause-part : goal.returns-clause-part
 returns-clause-part g c =
     seen_at (λ (known : Option (List ℕ)) (h : Header) (side : ℕ). OnErr c.write_in_room.result
     ((g.D.Folder.files c.write_in_room.new.folder ≡ g.D.Folder.files c.args.folder.now) ⊎ HoldsMadeFront known (λ b. texture_store (texture_of h b) side)
-    c.args.name.now (g.D.Folder.files c.args.folder.now) (g.D.Folder.files c.write_in_room.new.folder))) c.reserve.ensures.bytes c.reserve.ensures.header c.reserve.ensures.tile c.write_in_room.ensures.part
+    c.args.name.now (g.D.Folder.files c.args.folder.now) (g.D.Folder.files c.write_in_room.new.folder)))
+    c.reserve.ensures.bytes c.reserve.ensures.header c.reserve.ensures.tile
+    (seen_part c.args.geometry.now c.args.name.now (strip_store c.reserve.new.self) (rows_state g.F.File c.reserve.new.self)
+    (rows_state g.F.File c.write_in_room.new.chain) (folder_effect g.D.Folder c.args.folder.now c.write_in_room.new.folder) c.write_in_room.result
+    c.write_in_room.ensures.written)
 
 pub returns-clause-all_read : goal.returns-clause-all_read
 returns-clause-all_read g c =
     seen_at (λ (before : Option (List Place)) (h : Header) (side : ℕ). OnOk c.write_in_room.result (StripsAsked h c.args.geometry.now.tile
-    (strips_of h c.args.geometry.now.tile) before (g.F.File.asked c.write_in_room.new.chain.file))) c.reserve.ensures.asked c.reserve.ensures.header c.reserve.ensures.tile c.write_in_room.ensures.all_read
+    (strips_of h c.args.geometry.now.tile) before (g.F.File.asked c.write_in_room.new.chain.file)))
+    c.reserve.ensures.asked c.reserve.ensures.header c.reserve.ensures.tile
+    (seen_read c.args.geometry.now c.args.name.now (strip_store c.reserve.new.self) (rows_state g.F.File c.reserve.new.self)
+    (rows_state g.F.File c.write_in_room.new.chain) (folder_effect g.D.Folder c.args.folder.now c.write_in_room.new.folder) c.write_in_room.result
+    c.write_in_room.ensures.written)
 
 pub returns-clause-front_read : goal.returns-clause-front_read
 returns-clause-front_read g c =
     seen_at (λ (before : Option (List Place)) (h : Header) (side : ℕ). OnErr c.write_in_room.result (StripsTried h c.args.geometry.now.tile before
-    (g.F.File.asked c.write_in_room.new.chain.file))) c.reserve.ensures.asked c.reserve.ensures.header c.reserve.ensures.tile c.write_in_room.ensures.front_read
+    (g.F.File.asked c.write_in_room.new.chain.file)))
+    c.reserve.ensures.asked c.reserve.ensures.header c.reserve.ensures.tile
+    (seen_tried c.args.geometry.now c.args.name.now (strip_store c.reserve.new.self) (rows_state g.F.File c.reserve.new.self)
+    (rows_state g.F.File c.write_in_room.new.chain) (folder_effect g.D.Folder c.args.folder.now c.write_in_room.new.folder) c.write_in_room.result
+    c.write_in_room.ensures.written)
 
 pub returns-clause-refusals : goal.returns-clause-refusals
-returns-clause-refusals g c = c.write_in_room.ensures.refusals
+returns-clause-refusals g c =
+    seen_refusal c.args.geometry.now c.args.name.now (strip_store c.reserve.new.self) (rows_state g.F.File c.reserve.new.self)
+    (rows_state g.F.File c.write_in_room.new.chain) (folder_effect g.D.Folder c.args.folder.now c.write_in_room.new.folder) c.write_in_room.result
+    c.write_in_room.ensures.written
 
 pub returns-clause-failed : goal.returns-clause-failed
 returns-clause-failed g c =
     λ failed. subst (λ (n : ℕ). Rose (g.D.Folder.faults c.args.folder.now) (g.D.Folder.faults c.write_in_room.new.folder)
-    ⊎ Rose n (g.F.File.faults c.write_in_room.new.chain.file)) c.reserve.ensures.faults (c.write_in_room.ensures.failed failed)
+    ⊎ Rose n (g.F.File.faults c.write_in_room.new.chain.file)) c.reserve.ensures.faults
+    (seen_failed c.args.geometry.now c.args.name.now (strip_store c.reserve.new.self) (rows_state g.F.File c.reserve.new.self)
+    (rows_state g.F.File c.write_in_room.new.chain) (folder_effect g.D.Folder c.args.folder.now c.write_in_room.new.folder) c.write_in_room.result
+    c.write_in_room.ensures.written failed)
 
 pub returns-clause-bytes : goal.returns-clause-bytes
-returns-clause-bytes g c = c.write_in_room.ensures.bytes ∙ c.reserve.ensures.bytes
+returns-clause-bytes g c = c.write_in_room.ensures.kept.known ∙ c.reserve.ensures.bytes
 
 pub returns-clause-name : goal.returns-clause-name
-returns-clause-name g c = c.write_in_room.ensures.name ∙ c.reserve.ensures.name
+returns-clause-name g c = c.write_in_room.ensures.kept.called ∙ c.reserve.ensures.name
 
 pub returns-clause-header : goal.returns-clause-header
-returns-clause-header g c = c.write_in_room.ensures.header ∙ c.reserve.ensures.header
+returns-clause-header g c = c.write_in_room.ensures.kept.header ∙ c.reserve.ensures.header
 
 pub returns-clause-tile : goal.returns-clause-tile
-returns-clause-tile g c = c.write_in_room.ensures.tile ∙ c.reserve.ensures.tile
+returns-clause-tile g c = c.write_in_room.ensures.kept.tile ∙ c.reserve.ensures.tile
 
 pub returns-clause-file_faults : goal.returns-clause-file_faults
 returns-clause-file_faults g c =
     no_less (g.F.File.faults c.args.chain.now.file) (g.F.File.faults c.reserve.new.self.file) (g.F.File.faults c.write_in_room.new.chain.file)
-    (no_fewer _ _ c.reserve.ensures.faults) c.write_in_room.ensures.file_faults
+    (no_fewer _ _ c.reserve.ensures.faults) c.write_in_room.ensures.kept.faults
 
 pub returns-clause-asked : goal.returns-clause-asked
-returns-clause-asked g c = c.write_in_room.ensures.asked
+returns-clause-asked g c = c.write_in_room.ensures.asks.asked
 
 pub returns-clause-faults : goal.returns-clause-faults
-returns-clause-faults g c = c.write_in_room.ensures.faults
+returns-clause-faults g c = c.write_in_room.ensures.asks.faults
