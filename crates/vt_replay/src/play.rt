@@ -5,7 +5,6 @@ ghost use Rattle.vt_definitions.specs.Depths.{IsDepth, texel_length};
 ghost use Rattle.vt_outside.specs.Counts.{Rose};
 ghost use Rattle.vt_pages.specs.Pages.{pages_of, root_of};
 ghost use Rattle.vt_ppm.specs.Picture.{picture_bytes};
-ghost use Rattle.vt_journal.specs.declared.changes.RowLine.{RowLine};
 ghost use Rattle.vt_journal.specs.Changes.{at};
 ghost use Rattle.vt_journal.specs.JournalText.{Pass, content_changes};
 ghost use Rattle.vt_journal.specs.JournalFlaws.{IsLawfulJournal};
@@ -14,10 +13,9 @@ ghost use Rattle.vt_outside.specs.Effects.{folder_effect};
 ghost use Rattle.vt_outside.specs.Expectations.{AsksNone};
 ghost use Rattle.vt_replay_rows.specs.Pictures.{expected_picture, expected_pictures};
 ghost use Rattle.vt_replay_rows.specs.Scenes.{scene_of};
-ghost use Rattle.vt_replay_rows.specs.Replays.{HasPixels};
 ghost use Rattle.vt_replay_rows.specs.Following.{IsReadOn, Follows, MayBePlayed};
-ghost use Rattle.vt_replay.specs.Playing.{IsStaged, AreRowsWithin, ArePlayed, HasWritten};
-ghost use Rattle.vt_replay_rows.specs.ReplayLookups.{bytes_row, AreTiles};
+ghost use Rattle.vt_replay.specs.Playing.{IsStaged, ShowsVersion, KeepsOthers, AreRowsWithin, ArePlayed, HasWritten};
+ghost use Rattle.vt_replay_rows.specs.ReplayLookups.{AreTiles};
 ghost use Rattle.vt_replay.specs.Replayed.{replayed_rows, pictures_of, replay_file, expected_replay};
 
 use crate::stream::slots_for;
@@ -117,26 +115,21 @@ fn show_version<Rt: Threads + Sync, P: Filter + Sync, F: File>(
     requires depth { IsDepth shot.now.depth }
     requires picture { shot.now.picture < length shot.now.path.now.cameras }
     requires played { MayBePlayed shot.now.geometry.now journal.now.changes }
-    requires staged { IsStaged F.File shot.now.geometry.now shot.now.depth shot.now.path.now.width shot.now.path.now.height
-        journal.now.changes stage.old.table.entries.items stage.old.table.version stage.old.tiles.size stage.old.tiles.slots.items
-        stage.old.tiles.owners.items stage.old.tiles.bytes.items stage.old.samples.items stage.old.counts.items store.old }
+    requires staged { IsStaged F.File (scene_of shot.now.geometry.now shot.now.depth shot.now.path.now) journal.now.changes
+        stage.old store.old }
     requires rows { length pass.now.rows.elements ≡ shot.now.path.now.height }
     requires forward { stage.old.table.version ≤ version }
     requires inside { version ≤ length journal.now.changes }
     requires root { IsSome (at journal.now.changes version (root_of shot.now.geometry.now)) }
-    ensures staged { OnOk result (IsStaged F.File shot.now.geometry.now shot.now.depth shot.now.path.now.width shot.now.path.now.height
-        journal.now.changes stage.new.table.entries.items stage.new.table.version stage.new.tiles.size stage.new.tiles.slots.items
-        stage.new.tiles.owners.items stage.new.tiles.bytes.items stage.new.samples.items stage.new.counts.items store.new) }
+    ensures staged { OnOk result (IsStaged F.File (scene_of shot.now.geometry.now shot.now.depth shot.now.path.now) journal.now.changes
+        stage.new store.new) }
     ensures there { OnOk result (stage.new.table.version ≡ version) }
     ensures shown { OnOk result ((b : List ℕ) → F.bytes store.old.file ≡ Some b
-        → (y : ℕ) (row : RowLine) → slice_get pass.now.rows.elements y ≡ Some row → row.version ≡ version
         → let scene = scene_of shot.now.geometry.now shot.now.depth shot.now.path.now in
-        HasPixels shot.now.depth shot.now.path.now.width
-        (λ x. P.under (stored b) scene (at journal.now.changes version) shot.now.picture x y)
-        (bytes_row (texel_length shot.now.depth * shot.now.path.now.width) stage.new.samples.items y)) }
-    ensures kept { OnOk result ((y : ℕ) (row : RowLine) → slice_get pass.now.rows.elements y ≡ Some row → row.version ≢ version
-        → let line = texel_length shot.now.depth * shot.now.path.now.width in
-        bytes_row line stage.new.samples.items y ≡ bytes_row line stage.old.samples.items y) }
+        ShowsVersion (λ m x y. P.under (stored b) scene m shot.now.picture x y) scene journal.now.changes pass.now.rows.elements version
+        stage.new.samples.items) }
+    ensures kept { OnOk result (KeepsOthers (scene_of shot.now.geometry.now shot.now.depth shot.now.path.now) pass.now.rows.elements version
+        stage.old.samples.items stage.new.samples.items) }
     ensures failed { result ≡ Err OutsideError.Failed → Rose (F.faults store.old.file) (F.faults store.new.file) }
     ensures read { IsReadOn F.File store.old store.new }
 {
@@ -172,17 +165,15 @@ fn show_pass<Rt: Threads + Sync, P: Filter + Sync, F: File>(
     requires depth { IsDepth shot.now.depth }
     requires picture { shot.now.picture < length shot.now.path.now.cameras }
     requires played { MayBePlayed shot.now.geometry.now journal.now.changes }
-    requires staged { IsStaged F.File shot.now.geometry.now shot.now.depth shot.now.path.now.width shot.now.path.now.height
-        journal.now.changes stage.old.table.entries.items stage.old.table.version stage.old.tiles.size stage.old.tiles.slots.items
-        stage.old.tiles.owners.items stage.old.tiles.bytes.items stage.old.samples.items stage.old.counts.items store.old }
+    requires staged { IsStaged F.File (scene_of shot.now.geometry.now shot.now.depth shot.now.path.now) journal.now.changes
+        stage.old store.old }
     requires rows { AreRowsWithin shot.now.path.now.height pass.now.start last pass.now.rows.elements }
     requires forward { stage.old.table.version ≤ pass.now.start }
     requires inside { last ≤ length journal.now.changes }
     requires root { (v : ℕ) → pass.now.start ≤ v → v ≤ length journal.now.changes
         → IsSome (at journal.now.changes v (root_of shot.now.geometry.now)) }
-    ensures staged { OnOk result (IsStaged F.File shot.now.geometry.now shot.now.depth shot.now.path.now.width shot.now.path.now.height
-        journal.now.changes stage.new.table.entries.items stage.new.table.version stage.new.tiles.size stage.new.tiles.slots.items
-        stage.new.tiles.owners.items stage.new.tiles.bytes.items stage.new.samples.items stage.new.counts.items store.new) }
+    ensures staged { OnOk result (IsStaged F.File (scene_of shot.now.geometry.now shot.now.depth shot.now.path.now) journal.now.changes
+        stage.new store.new) }
     ensures there { OnOk result (stage.new.table.version ≡ last) }
     ensures shown { OnOk result ((b : List ℕ) → F.bytes store.old.file ≡ Some b
         → stage.new.samples.items ≡ replayed_rows P.under (stored b) (scene_of shot.now.geometry.now shot.now.depth shot.now.path.now)
@@ -214,17 +205,15 @@ fn play_pass<Rt: Threads + Sync, P: Filter + Sync, D: Folder>(
     requires depth { IsDepth shot.now.depth }
     requires picture { shot.now.picture < length shot.now.path.now.cameras }
     requires played { MayBePlayed shot.now.geometry.now journal.now.changes }
-    requires staged { IsStaged D.File.File shot.now.geometry.now shot.now.depth shot.now.path.now.width shot.now.path.now.height
-        journal.now.changes stage.old.table.entries.items stage.old.table.version stage.old.tiles.size stage.old.tiles.slots.items
-        stage.old.tiles.owners.items stage.old.tiles.bytes.items stage.old.samples.items stage.old.counts.items store.old }
+    requires staged { IsStaged D.File.File (scene_of shot.now.geometry.now shot.now.depth shot.now.path.now) journal.now.changes
+        stage.old store.old }
     requires rows { AreRowsWithin shot.now.path.now.height pass.now.start last pass.now.rows.elements }
     requires forward { stage.old.table.version ≤ pass.now.start }
     requires inside { last ≤ length journal.now.changes }
     requires root { (v : ℕ) → pass.now.start ≤ v → v ≤ length journal.now.changes
         → IsSome (at journal.now.changes v (root_of shot.now.geometry.now)) }
-    ensures staged { OnOk result (IsStaged D.File.File shot.now.geometry.now shot.now.depth shot.now.path.now.width shot.now.path.now.height
-        journal.now.changes stage.new.table.entries.items stage.new.table.version stage.new.tiles.size stage.new.tiles.slots.items
-        stage.new.tiles.owners.items stage.new.tiles.bytes.items stage.new.samples.items stage.new.counts.items store.new) }
+    ensures staged { OnOk result (IsStaged D.File.File (scene_of shot.now.geometry.now shot.now.depth shot.now.path.now) journal.now.changes
+        stage.new store.new) }
     ensures there { OnOk result (stage.new.table.version ≡ last) }
     ensures asks { AsksNone (folder_effect D.Folder folder.old folder.new) }
     ensures wrote { (b : List ℕ) → D.File.bytes store.old.file ≡ Some b
@@ -290,9 +279,7 @@ fn play_passes<Rt: Threads + Sync, P: Filter + Sync, D: Folder>(
 ) -> Result<u32, OutsideError>
     requires depth { IsDepth store.old.depth }
     requires played { MayBePlayed store.old.shape text.now.changes }
-    requires staged { IsStaged D.File.File store.old.shape store.old.depth path.now.width path.now.height
-        text.now.changes stage.old.table.entries.items stage.old.table.version stage.old.tiles.size stage.old.tiles.slots.items
-        stage.old.tiles.owners.items stage.old.tiles.bytes.items stage.old.samples.items stage.old.counts.items store.old }
+    requires staged { IsStaged D.File.File (scene_of store.old.shape store.old.depth path.now) text.now.changes stage.old store.old }
     requires passes { ArePlayed path.now.height text.now.content.pinned (length text.now.changes) text.now.content.passes }
     requires root { (v : ℕ) → text.now.content.pinned ≤ v → v ≤ length text.now.changes
         → IsSome (at text.now.changes v (root_of store.old.shape)) }

@@ -26,9 +26,8 @@ play_passes-requires-clause-staged g c = λ _ _.
     let store = c.args.store.now in
     let stage = c.in_ok-stage.stage in
     let did = c.in_ok-stage.ensures in
-    staged_first g.D.File.File store.shape c.geometry-geometry.result store.depth c.depth-depth.result c.args.path.now.width
-    c.args.path.now.height c.args.text.now.changes c.journal-journal.result.now.changes stage.table.entries.items stage.table.version
-    stage.tiles.size stage.tiles.slots.items stage.tiles.owners.items stage.tiles.bytes.items stage.samples.items stage.counts.items store
+    staged_first g.D.File.File store.shape c.geometry-geometry.result store.depth c.depth-depth.result c.args.path.now
+    c.args.text.now.changes c.journal-journal.result.now.changes stage store
     c.geometry-geometry.ensures.shape c.depth-depth.ensures.value c.journal-journal.ensures refl refl did.follows
     (did.tiles (g.D.File.File.bytes store.file)) did.samples did.counts c.geometry-geometry.ensures.store
 

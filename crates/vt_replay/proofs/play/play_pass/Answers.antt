@@ -1,7 +1,9 @@
-use Rattle.std.proofs.Common.{ℕ, List, [], ◌∷◌, ◌∙◌, subst, refl, arith}
+use Rattle.std.proofs.Common.{ℕ, ◌≡◌, ◌*◌, List, [], ◌∷◌, length, ◌∙◌, ap, sym, subst, refl, mul_comm, arith}
+use Rattle.std.proofs.Math.Nat.{mul_left_comm}
 use Rattle.std.proofs.lemmas.Result.{err_from_is_err_and}
 use Rattle.vt_ppm.specs.Picture.{picture_bytes}
 use Rattle.vt_tiles.specs.Format.{stored}
+use Rattle.vt_definitions.specs.Depths.{texel_length}
 use Rattle.vt_outside.specs.Effects.{folder_effect}
 use Rattle.vt_outside.specs.Expectations.{Writes}
 use Rattle.vt_replay_rows.specs.Pictures.{expected_picture}
@@ -10,6 +12,17 @@ use Rattle.vt_replay.specs.Replayed.{replayed_rows}
 use Rattle.vt_replay.proofs.Written.{nothing_written, samples_written}
 use Rattle.vt_outside.proofs.UnknownContents.{OnOk-all}
 use Rattle.vt_replay.proofs.play.play_pass.Goals as goal
+
+pub write_picture-requires-clause-full : goal.write_picture-requires-clause-full
+write_picture-requires-clause-full g c κs within =
+    let shot = c.args.shot.now in
+    let t = texel_length shot.depth in
+    let wide = shot.path.now.width in
+    let high = shot.path.now.height in
+    let held = ap length c.as_slice.ensures.value ∙ c.in_ok-show_pass.ensures.staged.samples_size in
+    let turned = held ∙ (mul_left_comm high t wide ∙ ap (λ (n : ℕ). t * n) (mul_comm high wide)) in
+    let by_width = subst (λ (w : ℕ). length c.as_slice.result.now ≡ t * (w * high)) (sym c.width.ensures.value) turned in
+    subst (λ (h : ℕ). length c.as_slice.result.now ≡ t * (c.width.result * h)) (sym c.height.ensures.value) by_width
 
 pub returns-in_err-show_pass-clause-wrote : goal.returns-in_err-show_pass-clause-wrote
 returns-in_err-show_pass-clause-wrote g c = λ b known.

@@ -121,10 +121,9 @@ loop-i-preserved g c =
     let mid = folder_state g.D.Folder loop.folder in
     let after = folder_state g.D.Folder c.play_pass.new.folder in
     record {
-      staged = restaged g.D.File.File s c.geometry-geometry.result d c.depth-depth.result path.width path.height c.args.text.now.changes
-          c.journal-journal.result.now.changes new.table.entries.items new.table.version new.tiles.size new.tiles.slots.items new.tiles.owners.items
-          new.tiles.bytes.items new.samples.items new.counts.items c.play_pass.new.store c.geometry-geometry.ensures.shape
-          c.depth-depth.ensures.value c.journal-journal.ensures did.staged;
+      staged = restaged g.D.File.File s c.geometry-geometry.result d c.depth-depth.result path c.args.text.now.changes
+          c.journal-journal.result.now.changes new c.play_pass.new.store c.geometry-geometry.ensures.shape c.depth-depth.ensures.value
+          c.journal-journal.ensures did.staged;
       turn = turn_next path.height c.args.text.now.content.pinned (length c.args.text.now.changes) passes loop.i loop.done new.table.version p
           c.requires.passes c.pass-pass.ensures turn.0 (λ q at. c.if-not-is_last.ensures.last refl p q c.pass-pass.ensures at)
           (λ q at. did.there ∙ c.last_of-last.ensures.next q at);

@@ -13,9 +13,7 @@ use Rattle.vt_replay.proofs.play.play_passes.Given as goal
 -- the pictures before that of the next pass are written
 abbrev pub invariant-loop-i : goal.invariant-loop-i
 invariant-loop-i g l = record {
-  staged : IsStaged g.D.File.File l.fn.store.shape l.fn.store.depth l.path.width l.path.height l.text.changes
-      l.stage.table.entries.items l.stage.table.version l.stage.tiles.size l.stage.tiles.slots.items l.stage.tiles.owners.items
-      l.stage.tiles.bytes.items l.stage.samples.items l.stage.counts.items l.store;
+  staged : IsStaged g.D.File.File (scene_of l.fn.store.shape l.fn.store.depth l.path) l.text.changes l.stage l.store;
   turn : MatchOption (slice_get l.text.content.passes l.i) (l.done ≡ pictures_of l.text.content.passes)
       (λ p. (l.done ≡ p.picture) × (l.stage.table.version ≤ p.start));
   asks : AsksNone (folder_effect g.D.Folder l.fn.folder l.folder);

@@ -14,9 +14,7 @@ use Rattle.vt_replay.proofs.play.show_pass.Given as goal
 -- the rows of the versions so far are drawn
 abbrev pub invariant-loop-version : goal.invariant-loop-version
 invariant-loop-version g l = record {
-  staged : IsStaged g.F.File l.shot.geometry.now l.shot.depth l.shot.path.now.width l.shot.path.now.height l.journal.changes
-      l.stage.table.entries.items l.stage.table.version l.stage.tiles.size l.stage.tiles.slots.items l.stage.tiles.owners.items
-      l.stage.tiles.bytes.items l.stage.samples.items l.stage.counts.items l.store;
+  staged : IsStaged g.F.File (scene_of l.shot.geometry.now l.shot.depth l.shot.path.now) l.journal.changes l.stage l.store;
   behind : l.stage.table.version ≤ l.version;
   there : (l.version ≡ l.pass.start) ⊎ (l.stage.table.version + 1 ≡ l.version);
   shown : (b : List ℕ) → g.F.File.bytes l.fn.store.file ≡ Some b
