@@ -1,10 +1,11 @@
 -- The samples of a picture, pixel by pixel and row by row.
-use Rattle.std.proofs.Common.{◌≡◌, ℕ, zero, suc, ◌+◌, ◌*◌, ◌/◌, ◌^◌, ◌<◌, ◌≤◌, List, [], ◌∷◌, ◌++◌, length, take, drop, drop-cons, refl, sym, ap, ◌∙◌, append_assoc, add-zero, add-one, arith}
-use Rattle.std.specs.Prelude.{slice_index}
+use Rattle.std.proofs.Common.{◌≡◌, ℕ, zero, suc, ◌+◌, ◌*◌, ◌/◌, ◌^◌, ◌<◌, ◌≤◌, List, [], ◌∷◌, ◌++◌, length, take, drop, drop-cons, refl, sym, ap, ◌∙◌, add-zero, add-one, arith}
+use Rattle.std.specs.Prelude.{slice_index, slice_get, Some, pos}
 use Rattle.std.specs.List.{flat_map, range_with_len}
 use Rattle.std.proofs.lemmas.List.{append-nil, length-append, length-take-le}
 use Rattle.std.proofs.Math.Seq.{take-append_seam, take-append-add}
 use Rattle.std.proofs.lemmas.List.Concat.{flat_map-append}
+use Rattle.std.proofs.lemmas.Option.{get_or_from_slice_get}
 use borrow.Rule.Slice.PartMut.{put_mid, post_of}
 use Rattle.vt_pages.specs.Depths.{word_bytes, red_of, green_of, blue_of, bytes_from, texel_bytes}
 use Rattle.vt_pages.specs.Numbers.{number_bytes}
@@ -14,7 +15,7 @@ use Rattle.vt_camera.specs.declared.paths.Camera.{Camera}
 use Rattle.vt_camera.specs.declared.surfaces.Surface.{Surface}
 use Rattle.vt_camera.specs.Paths.{PathView}
 use Rattle.vt_camera.specs.Rows.{RowView, row_of, row_level, row_place}
-use Rattle.vt_draw.specs.Plain.{shown_word, row_samples, first_rows}
+use Rattle.vt_draw.specs.Plain.{shown_word, row_samples, camera_at, first_rows}
 
 -- one number more at the end of a range
 pub range_more : (a n : ℕ) → range_with_len a (suc n) ≡ range_with_len a n ++ (a + n) ∷ []
@@ -22,7 +23,7 @@ range_more a zero = ap (λ (m : ℕ). m ∷ []) (sym (add-zero a))
 range_more a (suc n) = ap (λ (t : List ℕ). a ∷ t) (range_more (a + 1) n ∙ ap (λ (m : ℕ). range_with_len (a + 1) n ++ m ∷ []) (omega arith))
 
 -- what a function gives over a range with one number more
-over_more : (f : ℕ → List ℕ) (n : ℕ) → flat_map f (range_with_len 0 (n + 1)) ≡ flat_map f (range_with_len 0 n) ++ f n
+pub over_more : (f : ℕ → List ℕ) (n : ℕ) → flat_map f (range_with_len 0 (n + 1)) ≡ flat_map f (range_with_len 0 n) ++ f n
 over_more f n =
     ap (λ (m : ℕ). flat_map f (range_with_len 0 m)) (add-one n)
     ∙ ap (flat_map f) (range_more 0 n ∙ ap (λ (m : ℕ). range_with_len 0 n ++ m ∷ []) (omega arith))
@@ -60,29 +61,13 @@ pub row_samples-more : (d : ℕ) (source : Source) (row : RowView) (x : ℕ)
 unfolding row_samples
 row_samples-more d source row x = sym (over_more (λ (i : ℕ). word_bytes d (shown_word source row i)) x)
 
-first_rows-more : (d : ℕ) (source : Source) (surface : Surface) (path : PathView) (camera : Camera) (y : ℕ) (held : List ℕ)
-    → (held ++ first_rows d source surface path camera y) ++ row_samples d source (row_of path camera y surface) path.width
-    ≡ held ++ first_rows d source surface path camera (y + 1)
-unfolding first_rows
-first_rows-more d source surface path camera y held =
-    append_assoc held (first_rows d source surface path camera y) (row_samples d source (row_of path camera y surface) path.width)
-    ∙ ap (λ (t : List ℕ). held ++ t) (sym (over_more (λ (i : ℕ). row_samples d source (row_of path camera i surface) path.width) y))
-
--- one row more of a picture that is drawn
-pub row_added : (d : ℕ) (source : Source) (surface : Surface) (path : PathView) (camera : Camera) (y width : ℕ) (row : RowView)
-    (held before drawn after : List ℕ) → after ≡ before ++ drawn → drawn ≡ row_samples d source row width
-    → row ≡ row_of path camera y surface → width ≡ path.width → before ≡ held ++ first_rows d source surface path camera y
-    → after ≡ held ++ first_rows d source surface path camera (y + 1)
-row_added d source surface path camera y width row held before drawn after gained is r w so_far =
-    gained
-    ∙ ap (λ (t : List ℕ). before ++ t) is
-    ∙ ap (λ (v : RowView). before ++ row_samples d source v width) r
-    ∙ ap (λ (n : ℕ). before ++ row_samples d source (row_of path camera y surface) n) w
-    ∙ ap (λ (t : List ℕ). t ++ row_samples d source (row_of path camera y surface) path.width) so_far
-    ∙ first_rows-more d source surface path camera y held
+-- the camera of a picture that a path has
+pub camera_is : (path : PathView) (picture : ℕ) (camera : Camera) → slice_get path.cameras picture ≡ Some camera → camera ≡ camera_at path picture
+camera_is path picture camera has =
+    sym (get_or_from_slice_get path.cameras picture camera (record { u = pos 0; v = pos 0; h = pos 1; c = pos 0; s = pos 0 }) has)
 
 -- as many bytes for each number of a range
-many : (f : ℕ → List ℕ) (m n : ℕ) → ((i : ℕ) → length (f i) ≡ m) → length (flat_map f (range_with_len 0 n)) ≡ m * n
+pub many : (f : ℕ → List ℕ) (m n : ℕ) → ((i : ℕ) → length (f i) ≡ m) → length (flat_map f (range_with_len 0 n)) ≡ m * n
 many f m zero each = omega arith
 many f m (suc n) each =
     ap (λ (t : List ℕ). length (flat_map f t)) (range_more 0 n ∙ ap (λ (i : ℕ). range_with_len 0 n ++ i ∷ []) (omega arith))
@@ -153,7 +138,7 @@ length-number_bytes : (n value : ℕ) → length (number_bytes n value) ≡ n
 length-number_bytes zero value = refl
 length-number_bytes (suc n) value = omega (arith, length-number_bytes n value)
 
-length-word_bytes : (d word : ℕ) → length (word_bytes d word) ≡ 3 * d
+pub length-word_bytes : (d word : ℕ) → length (word_bytes d word) ≡ 3 * d
 length-word_bytes d word =
     let red = number_bytes d (red_of d word) in
     let green = number_bytes d (green_of d word) in

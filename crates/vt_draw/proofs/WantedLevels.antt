@@ -54,9 +54,9 @@ pub record IsDrawable (l : Levels) (row : RowView) : Type 0 where
   pub columns : chain_width l.chain.now (row_level row - l.skipped) ≡ side row.surface.width (row_level row)
   pub rows : chain_height l.chain.now (row_level row - l.skipped) ≡ side row.surface.height (row_level row)
 
-pub drawable : (d : ℕ) (v : View) (y : ℕ) (row : RowView) → IsView d v → y < v.path.now.height
+pub drawable : (v : View) (y : ℕ) (row : RowView) → IsView v → y < v.path.now.height
     → row ≡ row_of v.path.now v.camera y v.levels.surface → IsDrawable v.levels row
-drawable d v y row is inside same =
+drawable v y row is inside same =
     let r : RowView = row_of v.path.now v.camera y v.levels.surface in
     let wanted : v.levels.skipped ≤ row_level r = is.wants y inside in
     let within : row_level r < v.levels.surface.levels = level_of_within v.camera y v.levels.surface.levels is.levels.limits.some_level in

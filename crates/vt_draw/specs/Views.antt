@@ -1,6 +1,6 @@
 -- What the rows of a plain picture are drawn of: the levels of a texture that are there, and a camera whose rows want no other.
 use Rattle.std.specs.Prelude.{◌≡◌, ◌-◌, ◌*◌, ◌<◌, ◌≤◌, ℕ, List}
-use Rattle.vt_pages.specs.Depths.{IsDepth, texel_length}
+use Rattle.vt_pages.specs.Depths.{texel_length}
 use Rattle.vt_pages.specs.Limits.{most_levels}
 use Rattle.vt_pages.specs.Sides.{side}
 use Rattle.vt_pages.specs.Texels.{Source}
@@ -10,7 +10,7 @@ use Rattle.vt_camera.specs.Paths.{PathView, IsCamera}
 use Rattle.vt_camera.specs.Rows.{IsSurface, row_of, row_level}
 use Rattle.vt_draw.specs.declared.plain.Levels.{Levels}
 use Rattle.vt_draw.specs.declared.plain.View.{View}
-use Rattle.vt_draw.specs.Plain.{chain_of, levels_from, first_rows}
+use Rattle.vt_draw.specs.Plain.{chain_of, levels_from, row_samples}
 
 -- the levels of a texture as a source, of those that are there
 abbrev pub source_of : Levels → Source
@@ -28,21 +28,19 @@ pub record AreLevels (l : Levels) : Type 0 where
 abbrev pub WantsNone : Levels → PathView → Camera → Type 0
 WantsNone l path camera = (y : ℕ) → y < path.height → l.skipped ≤ row_level (row_of path camera y l.surface)
 
--- levels whose samples have d bytes, and a camera that wants none that is left out
-pub record IsView (d : ℕ) (v : View) : Type 0 where
-  pub depth : IsDepth d
-  pub own : v.levels.chain.now.base.depth ≡ d
+-- levels, and a camera that wants none that is left out
+pub record IsView (v : View) : Type 0 where
   pub levels : AreLevels v.levels
   pub camera : IsCamera v.camera
   pub wants : WantsNone v.levels v.path.now v.camera
 
--- the bytes of so many rows from the top, as the camera shows the levels
-abbrev pub rows_shown : ℕ → View → ℕ → List ℕ
-rows_shown d v rows = first_rows d (source_of v.levels) v.levels.surface v.path.now v.camera rows
+-- the bytes of a row, as the camera shows the levels
+abbrev pub row_shown : View → ℕ → List ℕ
+row_shown v y =
+    row_samples v.levels.chain.now.base.depth (source_of v.levels) (row_of v.path.now v.camera y v.levels.surface) v.path.now.width
 
--- so many bytes have room for the rows from one on to another, of those that the camera shows
-pub record IsRoomFor (d : ℕ) (v : View) (first end room : ℕ) : Type 0 where
-  pub view : IsView d v
-  pub order : first ≤ end
-  pub rows : end ≤ v.path.now.height
-  pub full : room ≡ texel_length d * v.path.now.width * (end - first)
+-- so many bytes have room for a row of those that the camera shows
+pub record IsRowOf (v : View) (y room : ℕ) : Type 0 where
+  pub view : IsView v
+  pub inside : y < v.path.now.height
+  pub full : room ≡ texel_length v.levels.chain.now.base.depth * v.path.now.width

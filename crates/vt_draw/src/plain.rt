@@ -1,21 +1,21 @@
 //! Drawing the plain picture.
 
 ghost use Rattle.std.specs.Prelude.{◌≡◌, ◌+◌, ◌-◌, ◌*◌, ◌<◌, ◌≤◌, ◌++◌, length, take, IfOk};
-ghost use Rattle.std.specs.Thread.{IsSync};
 ghost use Rattle.vt_pages.specs.Depths.{IsDepth, texel_length, texel_bytes};
 ghost use Rattle.vt_pages.specs.Limits.{most_levels};
 ghost use Rattle.vt_pages.specs.Sides.{side};
 ghost use Rattle.vt_mip.specs.Chains.{chain_levels, chain_width, chain_height};
 ghost use Rattle.vt_camera.specs.Rows.{IsSurface, row_level};
 ghost use Rattle.vt_draw.specs.Plain.{camera_at, chain_of, levels_from, surface_of, row_samples, plain_picture, plain_samples};
-ghost use Rattle.vt_draw.specs.Views.{AreLevels, IsView, IsRoomFor, WantsNone, rows_shown, source_of};
+ghost use Rattle.vt_draw.specs.Views.{AreLevels, IsRowOf, WantsNone, row_shown, source_of};
 
+use crate::parts::{Rows, draw_in_threads};
 use std::alloc::Global;
-use std::thread::{Threads, join_mut};
+use std::thread::Threads;
 use vt_camera::{Camera, Path, Row, Surface};
 use vt_mip::{Chain, NoMemory};
 use vt_pages::texel_length;
-use vt_threads::{DRAWING_TIME, processors, share, threads_for};
+use vt_threads::{DRAWING_TIME, processors, threads_for};
 
 /// Draws the plain picture with this number of a path, row by row from the top: three samples a pixel, each of as many bytes as
 /// the chain's samples have, the most significant first. A pixel shows what the level of its row has at the pixel's place
@@ -89,44 +89,13 @@ pub fn draw_levels_into<Rt: Threads + Sync>(
     requires room { length out.old ≡ texel_length levels.now.chain.now.base.depth * (path.now.width * path.now.height) }
     ensures { out.new ≡ plain_picture levels.now.chain.now.base.depth (source_of levels.now) levels.now.surface path.now picture }
 {
-    if levels.chain.depth() == 1 {
-        draw_picture::<Rt, 1>(rt, threads, levels, path, picture, out);
-    } else {
-        draw_picture::<Rt, 2>(rt, threads, levels, path, picture, out);
-    }
-}
-
-// What the rows of a picture are drawn of: levels, a path, and the picture's camera.
-#[derive(Clone, Copy)]
-struct View<'a> {
-    levels: Levels<'a>,
-    path: &'a Path,
-    camera: Camera,
-}
-
-// Draws the plain picture of levels whose samples have DEPTH bytes.
-fn draw_picture<Rt: Threads + Sync, const DEPTH: u32>(
-    rt: &Rt,
-    threads: usize,
-    levels: &Levels<'_>,
-    path: &Path,
-    picture: u32,
-    out: &mut [u8],
-)
-    requires depth { IsDepth DEPTH }
-    requires own { levels.now.chain.now.base.depth ≡ DEPTH }
-    requires levels { AreLevels levels.now }
-    requires wants { WantsNone levels.now path.now (camera_at path.now picture) }
-    requires picture { picture < length path.now.cameras }
-    requires room { length out.old ≡ texel_length levels.now.chain.now.base.depth * (path.now.width * path.now.height) }
-    ensures { out.new ≡ plain_picture levels.now.chain.now.base.depth (source_of levels.now) levels.now.surface path.now picture }
-{
     let view = View {
         levels: *levels,
         path,
         camera: path.camera(picture),
     };
-    draw_all::<Rt, DEPTH>(rt, threads, &view, out);
+    let size = texel_length(levels.chain.depth()) * path.width() as usize;
+    draw_in_threads(rt, threads, &view, path.height(), size, out);
 }
 
 /// The surface that a chain is to a camera.
@@ -144,105 +113,41 @@ pub fn surface_of(chain: &Chain) -> Surface
     }
 }
 
-// Writes the bytes of all rows.
-fn draw_all<Rt: Threads + Sync, const DEPTH: u32>(
-    rt: &Rt,
-    threads: usize,
-    view: &View<'_>,
-    out: &mut [u8],
-)
-    requires view { IsView DEPTH view.now }
-    requires room { length out.old ≡ texel_length DEPTH * (view.now.path.now.width * view.now.path.now.height) }
-    ensures { out.new ≡ rows_shown DEPTH view.now view.now.path.now.height }
-{
-    let height = view.path.height();
-    draw_in_parts::<Rt, DEPTH>(rt, threads, view, 0, height, out);
+// What the rows of a picture are drawn of: levels, a path, and the picture's camera.
+#[derive(Clone, Copy)]
+struct View<'a> {
+    levels: Levels<'a>,
+    path: &'a Path,
+    camera: Camera,
 }
 
-// Writes the bytes of the rows from one on to another, in so many threads, each of which writes rows of its own.
-#[cycle(parts)]
-fn draw_in_parts<Rt: Threads + Sync, const DEPTH: u32>(
-    rt: &Rt,
-    threads: usize,
-    view: &View<'_>,
-    first: u32,
-    end: u32,
-    out: &mut [u8],
-)
-    requires { IsRoomFor DEPTH view.now first end (length out.old) }
-    ensures { rows_shown DEPTH view.now first ++ out.new ≡ rows_shown DEPTH view.now end }
-{
-    if threads < 2 {
-        draw_rows::<DEPTH>(view, first, end, out);
-        return;
+impl Rows for View<'_> {
+    ghost use Rattle.vt_draw.specs.Views.{IsRowOf, row_shown};
+
+    ghost fits = { IsRowOf };
+
+    ghost bytes = { row_shown };
+
+    fn draw_row(&self, y: u32, out: &mut [u8]) {
+        if self.levels.chain.depth() == 1 {
+            draw_view_row::<1>(self, y, out);
+        } else {
+            draw_view_row::<2>(self, y, out);
+        }
     }
-    let few = threads / 2;
-    let middle = first + share((end - first) as usize, threads, few) as u32;
-    let size = texel_length(DEPTH) * view.path.width() as usize;
-    let (front, back) = out.split_at_mut(size * (middle - first) as usize);
-    draw_both::<Rt, DEPTH>(
-        rt,
-        few,
-        threads - few,
-        view,
-        first,
-        middle,
-        end,
-        front,
-        back,
-    );
 }
 
-// Writes the rows above the middle one, in `few` threads, and at once the others, in `many`. A function of its own, so that what the
-// closures ask is what it is given.
-#[cycle(parts)]
-fn draw_both<Rt: Threads + Sync, const DEPTH: u32>(
-    rt: &Rt,
-    few: usize,
-    many: usize,
-    view: &View<'_>,
-    first: u32,
-    middle: u32,
-    end: u32,
-    front: &mut [u8],
-    back: &mut [u8],
-)
-    requires some { (1 ≤ few) × (1 ≤ many) }
-    requires front { IsRoomFor DEPTH view.now first middle (length front.old) }
-    requires back { IsRoomFor DEPTH view.now middle end (length back.old) }
-    ensures front { rows_shown DEPTH view.now first ++ front.new ≡ rows_shown DEPTH view.now middle }
-    ensures back { rows_shown DEPTH view.now middle ++ back.new ≡ rows_shown DEPTH view.now end }
+// Writes the bytes of a row of levels whose samples have DEPTH bytes.
+fn draw_view_row<const DEPTH: u32>(view: &View<'_>, y: u32, out: &mut [u8])
+    requires depth { IsDepth DEPTH }
+    requires own { view.now.levels.chain.now.base.depth ≡ DEPTH }
+    requires row { IsRowOf view.now y (length out.old) }
+    ensures { out.new ≡ row_shown view.now y }
 {
-    let mut above = ||
-        requires { IsSync Rt.row × IsRoomFor DEPTH view.now first middle (length front.now) }
-        ensures { rows_shown DEPTH view.entry.now first ++ front.exit.now ≡ rows_shown DEPTH view.entry.now middle }
-    { draw_in_parts::<Rt, DEPTH>(rt, few, view, first, middle, front) };
-    let mut below = ||
-        requires { IsSync Rt.row × IsRoomFor DEPTH view.now middle end (length back.now) }
-        ensures { rows_shown DEPTH view.entry.now middle ++ back.exit.now ≡ rows_shown DEPTH view.entry.now end }
-    { draw_in_parts::<Rt, DEPTH>(rt, many, view, middle, end, back) };
-    join_mut(rt, &mut above, &mut below);
-}
-
-// Writes the bytes of the rows from one on to another.
-fn draw_rows<const DEPTH: u32>(view: &View<'_>, first: u32, end: u32, out: &mut [u8])
-    requires { IsRoomFor DEPTH view.now first end (length out.old) }
-    ensures { rows_shown DEPTH view.now first ++ out.new ≡ rows_shown DEPTH view.now end }
-{
-    let columns = view.path.width();
-    let size = texel_length(DEPTH) * columns as usize;
     let levels = view.levels;
-    for y in first..end {
-        let row = Row::of(view.path, &view.camera, y, &levels.surface);
-        let at = size * (y - first) as usize;
-        draw_plain_row::<DEPTH>(
-            levels.chain,
-            levels.skipped,
-            row,
-            columns,
-            &mut out[at..at + size],
-        );
-    }
+    let columns = view.path.width();
+    let row = Row::of(view.path, &view.camera, y, &levels.surface);
+    draw_plain_row::<DEPTH>(levels.chain, levels.skipped, row, columns, out);
 }
 
 // Writes the bytes of a row of so many pixels. It takes the row by value, for then no write can be one to the row's numbers.

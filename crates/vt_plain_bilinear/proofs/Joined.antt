@@ -1,10 +1,9 @@
 -- Texels of bytes, one after the other.
-use Rattle.std.proofs.Common.{◌≡◌, ℕ, zero, suc, ◌+◌, ◌*◌, ◌<◌, ◌≤◌, List, ◌∷◌, ◌++◌, length, drop, drop-cons, refl, sym, ap, ◌∙◌, arith}
+use Rattle.std.proofs.Common.{◌≡◌, ℕ, zero, suc, ◌+◌, ◌*◌, ◌<◌, ◌≤◌, List, ◌∷◌, ◌++◌, length, drop, drop-cons, sym, ap, ◌∙◌, arith}
 use Rattle.std.specs.Prelude.{slice_index}
 use Rattle.std.specs.List.{flat_map, range_with_len}
-use Rattle.std.proofs.lemmas.List.{length-append, drop_all}
-use Rattle.vt_definitions.specs.Depths.{word_bytes, red_of, green_of, blue_of, bytes_from, texel_bytes}
-use Rattle.vt_definitions.specs.Numbers.{number_bytes}
+use Rattle.std.proofs.lemmas.List.{drop_all}
+use Rattle.vt_definitions.specs.Depths.{bytes_from, texel_bytes}
 
 -- what is from a place on are so many bytes, and what is behind them
 cut : (bytes : List ℕ) (from n : ℕ) → from + n ≤ length bytes → drop from bytes ≡ bytes_from bytes from n ++ drop (from + n) bytes
@@ -40,21 +39,3 @@ joined d bytes f n full each =
     let whole : n ≡ 0 + n = omega arith in
     ap (λ (i : ℕ). drop i bytes) none
     ∙ joined_from d bytes f n 0 (full ∙ ap (λ (i : ℕ). 3 * d * i) whole) (λ x below. each x (omega (arith, below)))
-
-length-number_bytes : (n value : ℕ) → length (number_bytes n value) ≡ n
-length-number_bytes zero value = refl
-length-number_bytes (suc n) value = omega (arith, length-number_bytes n value)
-
-pub length-word_bytes : (d word : ℕ) → length (word_bytes d word) ≡ 3 * d
-length-word_bytes d word =
-    let red = number_bytes d (red_of d word) in
-    let green = number_bytes d (green_of d word) in
-    let blue = number_bytes d (blue_of d word) in
-    length-append (red ++ green) blue
-    ∙ omega (
-      arith,
-      length-append red green,
-      length-number_bytes d (red_of d word),
-      length-number_bytes d (green_of d word),
-      length-number_bytes d (blue_of d word),
-    )

@@ -5,4 +5,3 @@ pub mod Counts
 pub mod Kept
 pub mod Evidence
 pub mod DrawnBlends
-pub mod PartsBlended

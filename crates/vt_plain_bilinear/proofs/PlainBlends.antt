@@ -1,7 +1,5 @@
 -- The bytes of the plain picture by blends, row by row.
-use Rattle.std.proofs.Common.{◌≡◌, ◌≢◌, ℕ, ◌+◌, ◌*◌, ◌^◌, ◌<◌, ◌⊎◌, ⊎_elim, List, ◌++◌, length, sym, ap, ◌∙◌, subst, append_assoc, arith}
-use Rattle.std.specs.List.{flat_map, range_with_len}
-use Rattle.std.proofs.lemmas.List.{append-nil}
+use Rattle.std.proofs.Common.{◌≡◌, ◌≢◌, ℕ, ◌+◌, ◌*◌, ◌^◌, ◌<◌, ◌⊎◌, ⊎_elim, List, length, sym, ap, ◌∙◌, subst, arith}
 use Rattle.vt_definitions.specs.Depths.{IsDepth, AreBytes, texel_bytes, word_bytes, word_at}
 use Rattle.vt_definitions.specs.Texels.{Source}
 use Rattle.vt_mip.specs.Image.{ImageView}
@@ -12,14 +10,14 @@ use Rattle.vt_camera.specs.declared.surfaces.Surface.{Surface}
 use Rattle.vt_camera.specs.Paths.{PathView}
 use Rattle.vt_camera.specs.Rows.{RowView, row_of, row_level}
 use Rattle.vt_draw.specs.Plain.{chain_of}
-use Rattle.vt_tiles.proofs.Spans.{span_add, span_length}
+use Rattle.vt_draw.proofs.Drawn.{many, length-word_bytes}
 use Rattle.vt_blend.specs.declared.corners.Corners.{Corners}
 use Rattle.vt_blend.specs.declared.corners.Weights.{Weights}
 use Rattle.vt_blend.specs.declared.blends.Texels.{Texels}
 use Rattle.vt_blend.specs.Corners.{corners_of, weights_of, AreInside}
 use Rattle.vt_blend.specs.Blends.{blended_word, texels_of, blend_of, blend_bytes}
 use Rattle.vt_plain_bilinear.specs.Plain.{row_blends, first_blended_rows}
-use Rattle.vt_plain_bilinear.proofs.Joined.{joined, length-word_bytes}
+use Rattle.vt_plain_bilinear.proofs.Joined.{joined}
 
 -- a row whose pixels are blends
 pub row_is : (d : ℕ) (source : Source) (row : RowView) (columns : ℕ) (bytes : List ℕ) → length bytes ≡ 3 * d * columns
@@ -27,45 +25,19 @@ pub row_is : (d : ℕ) (source : Source) (row : RowView) (columns : ℕ) (bytes 
 unfolding row_blends
 row_is d source row columns bytes full each = joined d bytes (λ (x : ℕ). blend_bytes d row x (source (row_level row))) columns full each
 
--- one row more
-one_more : (f : ℕ → List ℕ) (n : ℕ) → flat_map f (range_with_len 0 n) ++ f n ≡ flat_map f (range_with_len 0 (n + 1))
-one_more f n =
-    let here : n ≡ 0 + n = omega arith in
-    let last : f n ≡ flat_map f (range_with_len n 1) = sym (append-nil (f n)) in
-    ap (λ (t : List ℕ). flat_map f (range_with_len 0 n) ++ t) (last ∙ ap (λ (i : ℕ). flat_map f (range_with_len i 1)) here) ∙ sym (span_add f 0 n 1)
-
-rows-more : (d : ℕ) (source : Source) (surface : Surface) (path : PathView) (camera : Camera) (y : ℕ)
-    → first_blended_rows d source surface path camera y ++ row_blends d source (row_of path camera y surface) path.width
-    ≡ first_blended_rows d source surface path camera (y + 1)
-unfolding first_blended_rows
-rows-more d source surface path camera y = one_more (λ (i : ℕ). row_blends d source (row_of path camera i surface) path.width) y
-
-pub row_added : (d : ℕ) (source : Source) (surface : Surface) (path : PathView) (camera : Camera) (y width : ℕ) (row : RowView)
-    (held before drawn after : List ℕ) → after ≡ before ++ drawn → drawn ≡ row_blends d source row width
-    → row ≡ row_of path camera y surface → width ≡ path.width → before ≡ held ++ first_blended_rows d source surface path camera y
-    → after ≡ held ++ first_blended_rows d source surface path camera (y + 1)
-row_added d source surface path camera y width row held before drawn after gained is r w so_far =
-    gained
-    ∙ ap (λ (t : List ℕ). before ++ t) is
-    ∙ ap (λ (v : RowView). before ++ row_blends d source v width) r
-    ∙ ap (λ (n : ℕ). before ++ row_blends d source (row_of path camera y surface) n) w
-    ∙ ap (λ (t : List ℕ). t ++ row_blends d source (row_of path camera y surface) path.width) so_far
-    ∙ append_assoc held (first_blended_rows d source surface path camera y) (row_blends d source (row_of path camera y surface) path.width)
-    ∙ ap (λ (t : List ℕ). held ++ t) (rows-more d source surface path camera y)
-
-length-row_blends : (d : ℕ) (source : Source) (row : RowView) (columns : ℕ) → length (row_blends d source row columns) ≡ columns * (3 * d)
+length-row_blends : (d : ℕ) (source : Source) (row : RowView) (columns : ℕ) → length (row_blends d source row columns) ≡ 3 * d * columns
 unfolding row_blends
 length-row_blends d source row columns =
-    span_length (λ (x : ℕ). blend_bytes d row x (source (row_level row))) 0 columns (3 * d)
+    many (λ (x : ℕ). blend_bytes d row x (source (row_level row))) (3 * d) columns
     (λ x. length-word_bytes d (blend_of d row x (source (row_level row))))
 
 pub length-rows : (d : ℕ) (source : Source) (surface : Surface) (path : PathView) (camera : Camera) (rows : ℕ)
     → length (first_blended_rows d source surface path camera rows) ≡ 3 * d * (path.width * rows)
 unfolding first_blended_rows
 length-rows d source surface path camera rows =
-    span_length (λ (y : ℕ). row_blends d source (row_of path camera y surface) path.width) 0 rows (path.width * (3 * d))
+    many (λ (y : ℕ). row_blends d source (row_of path camera y surface) path.width) (3 * d * path.width) rows
     (λ y. length-row_blends d source (row_of path camera y surface) path.width)
-    ∙ (let e : rows * (path.width * (3 * d)) ≡ 3 * d * (path.width * rows) = omega arith in e)
+    ∙ (let e : 3 * d * path.width * rows ≡ 3 * d * (path.width * rows) = omega arith in e)
 
 -- the words at corners inside a level are those of any words that agree inside it
 pub same_texels : (columns rows : ℕ) (f g : ℕ → ℕ → ℕ) (at : Corners) → AreInside columns rows at

@@ -1,24 +1,23 @@
 //! Drawing the plain picture by blends.
 
-ghost use Rattle.std.specs.Prelude.{◌≡◌, ◌+◌, ◌*◌, ◌<◌, ◌≤◌, ◌++◌, length, IfOk};
-ghost use Rattle.std.specs.Thread.{IsSync};
+ghost use Rattle.std.specs.Prelude.{◌≡◌, ◌+◌, ◌*◌, ◌<◌, ◌≤◌, length, IfOk};
 ghost use Rattle.vt_definitions.specs.Depths.{IsDepth, texel_length, word_at};
 ghost use Rattle.vt_definitions.specs.Limits.{most_levels, most_read_side};
 ghost use Rattle.vt_draw.specs.Plain.{chain_of, surface_of};
 ghost use Rattle.vt_blend.specs.Corners.{AreInside};
 ghost use Rattle.vt_blend.specs.Blends.{texels_of};
 ghost use Rattle.vt_plain_bilinear.specs.Plain.{row_blends, plain_blends};
-ghost use Rattle.vt_plain_bilinear.specs.BlendViews.{IsBlendView, IsBlendRoom, rows_blended};
+ghost use Rattle.vt_plain_bilinear.specs.BlendViews.{IsBlendRowOf, row_blended};
 
 use std::alloc::Global;
-use std::thread::{Threads, join_mut};
+use std::thread::Threads;
 use vt_blend::{Corners, Texels, blend_words, corners_of, weights_of};
 use vt_camera::{Camera, Path, Row, Surface};
 use vt_definitions::{put_word, texel_length, texels_with_bytes_have_words, word_at};
-use vt_draw::surface_of;
+use vt_draw::{Rows, draw_in_threads, surface_of};
 use vt_mip::{Chain, chain_words_are_small, texture_samples_are_bytes};
 use vt_outside::NoMemory;
-use vt_threads::{BLENDING_TIME, processors, share, threads_for};
+use vt_threads::{BLENDING_TIME, processors, threads_for};
 
 /// Draws the plain picture with this number of a path by bilinear filtering, row by row from the top: three samples a pixel, each of as
 /// many bytes as the chain's samples have, the most significant first. A pixel is the blend of the four texels about its place, of the
@@ -59,11 +58,14 @@ pub fn draw_plain_blend_into<Rt: Threads + Sync>(
     requires room { length out.old ≡ texel_length chain.now.base.depth * (path.now.width * path.now.height) }
     ensures { out.new ≡ plain_blends chain.now.base chain.now.tile path.now picture }
 {
-    if chain.depth() == 1 {
-        blend_picture::<Rt, 1>(rt, threads, chain, path, picture, out);
-    } else {
-        blend_picture::<Rt, 2>(rt, threads, chain, path, picture, out);
-    }
+    let view = BlendView {
+        chain,
+        path,
+        camera: path.camera(picture),
+        surface: surface_of(chain),
+    };
+    let size = texel_length(chain.depth()) * path.width() as usize;
+    draw_in_threads(rt, threads, &view, path.height(), size, out);
 }
 
 // What the rows of a picture are blended of: a chain, a path, the picture's camera, and the chain as a surface to it.
@@ -75,122 +77,32 @@ struct BlendView<'a> {
     surface: Surface,
 }
 
-// Draws the plain picture of a chain whose samples have DEPTH bytes.
-fn blend_picture<Rt: Threads + Sync, const DEPTH: u32>(
-    rt: &Rt,
-    threads: usize,
-    chain: &Chain,
-    path: &Path,
-    picture: u32,
-    out: &mut [u8],
-)
-    requires depth { IsDepth DEPTH }
-    requires own { chain.now.base.depth ≡ DEPTH }
-    requires picture { picture < length path.now.cameras }
-    requires room { length out.old ≡ texel_length chain.now.base.depth * (path.now.width * path.now.height) }
-    ensures { out.new ≡ plain_blends chain.now.base chain.now.tile path.now picture }
-{
-    let view = BlendView {
-        chain,
-        path,
-        camera: path.camera(picture),
-        surface: surface_of(chain),
-    };
-    blend_all::<Rt, DEPTH>(rt, threads, &view, out);
-}
+impl Rows for BlendView<'_> {
+    ghost use Rattle.vt_plain_bilinear.specs.BlendViews.{IsBlendRowOf, row_blended};
 
-// Writes the bytes of all rows.
-fn blend_all<Rt: Threads + Sync, const DEPTH: u32>(
-    rt: &Rt,
-    threads: usize,
-    view: &BlendView<'_>,
-    out: &mut [u8],
-)
-    requires view { IsBlendView DEPTH view.now }
-    requires room { length out.old ≡ texel_length DEPTH * (view.now.path.now.width * view.now.path.now.height) }
-    ensures { out.new ≡ rows_blended DEPTH view.now view.now.path.now.height }
-{
-    let height = view.path.height();
-    blend_in_parts::<Rt, DEPTH>(rt, threads, view, 0, height, out);
-}
+    ghost fits = { IsBlendRowOf };
 
-// Writes the bytes of the rows from one on to another, in so many threads, each of which writes rows of its own.
-#[cycle(parts)]
-fn blend_in_parts<Rt: Threads + Sync, const DEPTH: u32>(
-    rt: &Rt,
-    threads: usize,
-    view: &BlendView<'_>,
-    first: u32,
-    end: u32,
-    out: &mut [u8],
-)
-    requires { IsBlendRoom DEPTH view.now first end (length out.old) }
-    ensures { rows_blended DEPTH view.now first ++ out.new ≡ rows_blended DEPTH view.now end }
-{
-    if threads < 2 {
-        blend_rows::<DEPTH>(view, first, end, out);
-        return;
+    ghost bytes = { row_blended };
+
+    fn draw_row(&self, y: u32, out: &mut [u8]) {
+        if self.chain.depth() == 1 {
+            blend_view_row::<1>(self, y, out);
+        } else {
+            blend_view_row::<2>(self, y, out);
+        }
     }
-    let few = threads / 2;
-    let middle = first + share((end - first) as usize, threads, few) as u32;
-    let size = texel_length(DEPTH) * view.path.width() as usize;
-    let (front, back) = out.split_at_mut(size * (middle - first) as usize);
-    blend_both::<Rt, DEPTH>(
-        rt,
-        few,
-        threads - few,
-        view,
-        first,
-        middle,
-        end,
-        front,
-        back,
-    );
 }
 
-// Writes the rows above the middle one, in `few` threads, and at once the others, in `many`. A function of its own, so that what the
-// closures ask is what it is given.
-#[cycle(parts)]
-fn blend_both<Rt: Threads + Sync, const DEPTH: u32>(
-    rt: &Rt,
-    few: usize,
-    many: usize,
-    view: &BlendView<'_>,
-    first: u32,
-    middle: u32,
-    end: u32,
-    front: &mut [u8],
-    back: &mut [u8],
-)
-    requires some { (1 ≤ few) × (1 ≤ many) }
-    requires front { IsBlendRoom DEPTH view.now first middle (length front.old) }
-    requires back { IsBlendRoom DEPTH view.now middle end (length back.old) }
-    ensures front { rows_blended DEPTH view.now first ++ front.new ≡ rows_blended DEPTH view.now middle }
-    ensures back { rows_blended DEPTH view.now middle ++ back.new ≡ rows_blended DEPTH view.now end }
-{
-    let mut above = ||
-        requires { IsSync Rt.row × IsBlendRoom DEPTH view.now first middle (length front.now) }
-        ensures { rows_blended DEPTH view.entry.now first ++ front.exit.now ≡ rows_blended DEPTH view.entry.now middle }
-    { blend_in_parts::<Rt, DEPTH>(rt, few, view, first, middle, front) };
-    let mut below = ||
-        requires { IsSync Rt.row × IsBlendRoom DEPTH view.now middle end (length back.now) }
-        ensures { rows_blended DEPTH view.entry.now middle ++ back.exit.now ≡ rows_blended DEPTH view.entry.now end }
-    { blend_in_parts::<Rt, DEPTH>(rt, many, view, middle, end, back) };
-    join_mut(rt, &mut above, &mut below);
-}
-
-// Writes the bytes of the rows from one on to another.
-fn blend_rows<const DEPTH: u32>(view: &BlendView<'_>, first: u32, end: u32, out: &mut [u8])
-    requires { IsBlendRoom DEPTH view.now first end (length out.old) }
-    ensures { rows_blended DEPTH view.now first ++ out.new ≡ rows_blended DEPTH view.now end }
+// Writes the bytes of a row of a chain whose samples have DEPTH bytes.
+fn blend_view_row<const DEPTH: u32>(view: &BlendView<'_>, y: u32, out: &mut [u8])
+    requires depth { IsDepth DEPTH }
+    requires own { view.now.chain.now.base.depth ≡ DEPTH }
+    requires row { IsBlendRowOf view.now y (length out.old) }
+    ensures { out.new ≡ row_blended view.now y }
 {
     let columns = view.path.width();
-    let size = texel_length(DEPTH) * columns as usize;
-    for y in first..end {
-        let row = Row::of(view.path, &view.camera, y, &view.surface);
-        let at = size * (y - first) as usize;
-        blend_row::<DEPTH>(view.chain, row, columns, &mut out[at..at + size]);
-    }
+    let row = Row::of(view.path, &view.camera, y, &view.surface);
+    blend_row::<DEPTH>(view.chain, row, columns, out);
 }
 
 // Writes the bytes of a row of so many pixels. It takes the row by value, for then no write can be one to the row's numbers.

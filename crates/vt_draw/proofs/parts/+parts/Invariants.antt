@@ -1,5 +1,5 @@
 use Rattle.std.proofs.Common.{◌+◌, ◌-◌, ◌*◌}
-use Rattle.vt_draw.proofs.plain.+parts.Given as goal
+use Rattle.vt_draw.proofs.parts.+parts.Given as goal
 
 abbrev pub decreases-draw_in_parts : goal.decreases-draw_in_parts
 decreases-draw_in_parts g l = 3 * l.threads
