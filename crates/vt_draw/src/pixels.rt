@@ -7,9 +7,9 @@ ghost use Rattle.vt_draw.specs.Lookups.{Note, WordNote, IsFinestFound, covering_
 use crate::lookups::{Found, Lookup};
 use vt_pages::Geometry;
 
-// The page of the texel of a level that covers a place of level 0.
+/// The page of the texel of a level that covers a place of level 0.
 #[inline(always)]
-pub(crate) fn page_at_place(geometry: &Geometry, level: u32, column: u32, line: u32) -> u32
+pub fn page_at_place(geometry: &Geometry, level: u32, column: u32, line: u32) -> u32
     requires level { level < levels_of geometry.now }
     requires column { column < geometry.now.width }
     requires line { line < geometry.now.height }
@@ -20,9 +20,9 @@ pub(crate) fn page_at_place(geometry: &Geometry, level: u32, column: u32, line: 
     geometry.page_of_place(level, column, line)
 }
 
-// What a look-up finds for a page, given what it found for the page of the pixel before.
+/// What a look-up finds for a page, given what it found for the page of the pixel before.
 #[inline(always)]
-pub(crate) fn found_for<K: Lookup>(lookup: &mut K, before: u32, found: Found, page: u32) -> Found
+pub fn found_for<K: Lookup>(lookup: &mut K, before: u32, found: Found, page: u32) -> Found
     requires before { IsFinestFound (K.shape lookup.old) (K.version lookup.old) (K.says lookup.old) before found }
     requires inside { page < pages_of (K.shape lookup.old) }
     ensures finest { IsFinestFound (K.shape lookup.new) (K.version lookup.new) (K.says lookup.new) page result }
@@ -38,9 +38,9 @@ pub(crate) fn found_for<K: Lookup>(lookup: &mut K, before: u32, found: Found, pa
     }
 }
 
-// The word at a place of level 0, in the page that was found for the page of that place at a level.
+/// The word at a place of level 0, in the page that was found for the page of that place at a level.
 #[inline(always)]
-pub(crate) fn word_at_place<K: Lookup>(
+pub fn word_at_place<K: Lookup>(
     lookup: &mut K,
     found: &Found,
     level: u32,

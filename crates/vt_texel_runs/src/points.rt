@@ -4,12 +4,12 @@ ghost use Rattle.std.specs.Prelude.{◌≡◌, ◌*◌, ◌<◌, length};
 ghost use Rattle.std.specs.List.{All};
 ghost use Rattle.std.specs.Bool.{MatchBool};
 ghost use Rattle.vt_definitions.specs.Depths.{IsDepth, texel_length};
-ghost use Rattle.vt_pages.specs.Pages.{levels_of, pages_of, IsWithinLimits};
-ghost use Rattle.vt_draw.specs.Lookups.{Note, WordNote, IsFinestFound, covering_page, covering_place};
+ghost use Rattle.vt_pages.specs.Pages.{IsWithinLimits};
+ghost use Rattle.vt_draw.specs.Lookups.{Note};
 ghost use Rattle.vt_texel_runs.specs.Points.{IsPoint, AreAnswered};
 
 use vt_definitions::put_word;
-use vt_draw::{Found, Lookup};
+use vt_draw::{Lookup, found_for, page_at_place, word_at_place};
 use vt_pages::Geometry;
 
 /// A place of level 0, and the level at which it is wanted.
@@ -42,62 +42,6 @@ pub fn are_points(geometry: &Geometry, points: &[Point]) -> bool
         }
     }
     true
-}
-
-/// The page of the texel of a level that covers a place of level 0.
-#[inline(always)]
-pub(crate) fn page_at_place(geometry: &Geometry, level: u32, column: u32, line: u32) -> u32
-    requires level { level < levels_of geometry.now }
-    requires column { column < geometry.now.width }
-    requires line { line < geometry.now.height }
-    ensures page { result ≡ covering_page geometry.now level column line }
-    ensures inside { result < pages_of geometry.now }
-{
-    let _levels = geometry.levels();
-    geometry.page_of_place(level, column, line)
-}
-
-/// What a look-up finds for a page, given what it found for the page before.
-#[inline(always)]
-pub(crate) fn found_for<K: Lookup>(lookup: &mut K, before: u32, found: Found, page: u32) -> Found
-    requires before { IsFinestFound (K.shape lookup.old) (K.version lookup.old) (K.says lookup.old) before found }
-    requires inside { page < pages_of (K.shape lookup.old) }
-    ensures finest { IsFinestFound (K.shape lookup.new) (K.version lookup.new) (K.says lookup.new) page result }
-    ensures said { (note : Note) → K.says lookup.old note → K.says lookup.new note }
-    ensures version { K.version lookup.new ≡ K.version lookup.old }
-    ensures shape { K.shape lookup.new ≡ K.shape lookup.old }
-    ensures kept { K.kept lookup.new ≡ K.kept lookup.old }
-{
-    if page == before {
-        found
-    } else {
-        lookup.find(page)
-    }
-}
-
-/// The word at a place of level 0, in the page that was found for the page of that place at a level.
-#[inline(always)]
-pub(crate) fn word_at_place<K: Lookup>(
-    lookup: &mut K,
-    found: &Found,
-    level: u32,
-    column: u32,
-    line: u32,
-) -> u64
-    requires limits { IsWithinLimits (K.shape lookup.old) }
-    requires level { level < levels_of (K.shape lookup.old) }
-    requires column { column < (K.shape lookup.old).width }
-    requires line { line < (K.shape lookup.old).height }
-    requires finest { IsFinestFound (K.shape lookup.old) (K.version lookup.old) (K.says lookup.old)
-        (covering_page (K.shape lookup.old) level column line) found.now }
-    ensures read { K.says lookup.new (WordNote (K.version lookup.new) found.now.slot
-        (covering_place (K.shape lookup.new) found.now.level column line) result) }
-    ensures said { (note : Note) → K.says lookup.old note → K.says lookup.new note }
-    ensures version { K.version lookup.new ≡ K.version lookup.old }
-    ensures shape { K.shape lookup.new ≡ K.shape lookup.old }
-    ensures kept { K.kept lookup.new ≡ K.kept lookup.old }
-{
-    lookup.texel(found, column >> found.level, line >> found.level)
 }
 
 // Writes the bytes of texels of DEPTH bytes a sample.

@@ -7,9 +7,9 @@ ghost use Rattle.vt_pages.specs.Pages.{IsWithinLimits};
 ghost use Rattle.vt_draw.specs.Lookups.{Note};
 ghost use Rattle.vt_texel_runs.specs.Spans.{stepped, span_point, IsSpanInside, AreSpanned, AreWantedBySpan};
 
-use crate::points::{Point, found_for, is_point, page_at_place, word_at_place};
+use crate::points::{Point, is_point};
 use vt_definitions::put_word;
-use vt_draw::Lookup;
+use vt_draw::{Lookup, found_for, page_at_place, word_at_place};
 use vt_pages::Geometry;
 
 /// A run of texels: the level at which they are wanted, the place of level 0 of the first one, the step from one to the next, and how many
