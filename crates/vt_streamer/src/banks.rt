@@ -1,6 +1,6 @@
 //! The bank of the next version is made, change by change, from the version that it had to the next one.
 
-ghost use Rattle.std.specs.Prelude.{◌≡◌, ℕ, ◌+◌, ◌≤◌, ◌<◌};
+ghost use Rattle.std.specs.Prelude.{◌≡◌, ◌+◌, ◌≤◌, ◌<◌};
 ghost use Rattle.vt_definitions.specs.Limits.{most_versions};
 ghost use Rattle.vt_table.specs.Changes.{at, newest};
 ghost use Rattle.vt_table.specs.Lookups.{change_page};
