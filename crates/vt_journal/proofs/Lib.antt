@@ -1,5 +1,4 @@
 pub use Rattle.vt_pages.proofs.Lines
-pub use Rattle.vt_pages.proofs.Parents
 pub use Rattle.vt_text.proofs.Truths
 pub mod Versions
 pub mod Finding
