@@ -61,11 +61,6 @@ step_not_made made read rose n bytes folder (Err x) is added tried so = record {
   outside = subst IsOutsideRefusal (sym is) tt;
 }
 
--- which refusal it is
-pub error_is : {T : Type 0} (q : Result T StoreError) (e f : StoreError) → IsErrAnd q (λ x. x ≡ e) → IsErrOf q f → e ≡ f
-error_is (Ok x) e f is failed = absurd is
-error_is (Err x) e f is failed = cc
-
 -- a prefix of bytes that were lent
 pub front_in : (n bytes bytes' : List ℕ) (folder : FolderEffect) (e : OutsideError) → bytes ≡ bytes' → AddsFront n bytes folder e → AddsFront n bytes' folder e
 front_in n bytes bytes' folder e lent adds = subst (λ (l : List ℕ). AddsFront n l folder e) lent adds
