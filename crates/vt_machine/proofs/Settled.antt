@@ -5,7 +5,6 @@ use Rattle.std.specs.List.{concat}
 use Rattle.std.proofs.lemmas.List.{append-nil}
 use Rattle.std.proofs.lemmas.Option.{slice_get-get_or}
 use Rattle.vt_pages.specs.Pages.{IsWithinLimits}
-use Rattle.vt_pictures.specs.Paths.{PathView}
 use Rattle.vt_pictures.specs.JournalTypes.changes.Change.{Change}
 use Rattle.vt_pictures.specs.JournalTypes.changes.Event.{Event}
 use Rattle.vt_pictures.specs.JournalTypes.changes.RowLine.{RowLine}
@@ -18,7 +17,7 @@ use Rattle.vt_pictures.specs.Scenes.{Scene}
 use Rattle.vt_machine.specs.Jobs.{Job}
 use Rattle.vt_machine.specs.Outcomes.{IsOutcome, pass_events}
 use Rattle.vt_pictures.specs.Replays.{HasPixels, IsFull, IsPictureOf}
-use Rattle.vt_machine.specs.Drawings.{Drawing}
+use Rattle.vt_machine.specs.Drawings.{Drawing, RowRelation}
 use Rattle.vt_machine.specs.Machines.{Setup, MachineState}
 use Rattle.vt_machine.specs.Passes.{IsJobFor, MapsNeeded, Ran}
 
@@ -38,7 +37,7 @@ there : (lines : List RowLine) (y : ℕ) → y < length lines → (line : RowLin
 there [] y inside = absurd (omega arith)
 there (line ∷ lines) y inside = let d : RowLine = line in let e : slice_get (line ∷ lines) y ≡ Some _ = slice_get-get_or (line ∷ lines) y d inside in (_, e)
 
-module _ (draws : Drawing) (drawn : PathView → ℕ → ℕ → ℕ → List ℕ → Type 0)
+module _ (draws : Drawing) (drawn : RowRelation)
     (law : (scene : Scene) (b : List ℕ) (m : Table) (i x y : ℕ) → IsWithinLimits scene.shape → IsStore b scene.shape scene.depth
     → i < length scene.path.cameras → x < scene.path.width → y < scene.path.height → MapsNeeded scene.shape m (draws.needs scene i)
     → draws.shows scene b m i x y ≡ draws.whole scene b i x y) where

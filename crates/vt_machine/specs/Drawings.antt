@@ -5,9 +5,14 @@ use Rattle.vt_pages.specs.Shape.{Shape}
 use Rattle.vt_pictures.specs.Rows.{RowView}
 use Rattle.vt_pictures.specs.Changes.{Table}
 use Rattle.vt_tiles.specs.Format.{stored}
+use Rattle.vt_pictures.specs.Paths.{PathView}
 use Rattle.vt_pictures.specs.Scenes.{Scene}
 use Rattle.vt_pictures.specs.declared.filters.Filter.{Ghosts as FilterMeanings}
 use Rattle.vt_pictures.specs.FilterLaws.{picture_wants}
+
+-- of a path, a picture's number, a row, a version and the row's bytes: how the row was drawn
+abbrev pub RowRelation : Type 1
+RowRelation = PathView → ℕ → ℕ → ℕ → List ℕ → Type 0
 
 -- what belongs to a kind of machines: whether row y is always drawn by sampler y modulo their number; how many texels a picture needs of each
 -- page; and of a store's bytes the bytes of each pixel of a picture, under a page table and without one

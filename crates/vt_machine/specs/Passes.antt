@@ -4,7 +4,6 @@ use Rattle.vt_outside.specs.Files.{IsPiece}
 use Rattle.vt_outside.specs.declared.answers.NoMemory.{NoMemory}
 use Rattle.vt_pages.specs.Shape.{Shape}
 use Rattle.vt_pages.specs.Pages.{pages_of, root_of}
-use Rattle.vt_pictures.specs.Paths.{PathView}
 use Rattle.vt_pictures.specs.JournalTypes.changes.Change.TheVariants.{Map}
 use Rattle.vt_pictures.specs.JournalTypes.changes.RowLine.{RowLine}
 use Rattle.vt_pictures.specs.Changes.{Table, newest, IsNext}
@@ -14,7 +13,7 @@ use Rattle.vt_machine.specs.declared.crew.PassReport.{PassReport}
 use Rattle.vt_machine.specs.Jobs.{Job}
 use Rattle.vt_machine.specs.Crews.{last_start}
 use Rattle.vt_tiles.specs.Format.{tile_length, tile_start}
-use Rattle.vt_machine.specs.Drawings.{Drawing}
+use Rattle.vt_machine.specs.Drawings.{Drawing, RowRelation}
 use Rattle.vt_machine.specs.Outcomes.{IsBatchFor, IsOutcome}
 use Rattle.vt_machine.specs.RowOrders.{AreRowsInOrder}
 use Rattle.vt_machine.specs.Requests.{FileState, AreReadFor, ArePartlyReadFor}
@@ -71,7 +70,7 @@ pub record IsJobFor (given : Setup) (job : Job) : Type 0 where
   pub picture : job.picture < length job.scene.path.cameras
 
 -- a machine's picture of a job: its rows are the replay of the pass, and each came from what the machine did; its counts are those needed
-pub record IsPictured (draws : Drawing) (drawn : PathView → ℕ → ℕ → ℕ → List ℕ → Type 0) (job : Job) (lines : List RowLine)
+pub record IsPictured (draws : Drawing) (drawn : RowRelation) (job : Job) (lines : List RowLine)
     (s : MachineState) : Type 0 where
   pub count : length s.rows ≡ s.setup.height
   pub full : All (IsFull s.setup.depth s.setup.width) s.rows
@@ -82,7 +81,7 @@ pub record IsPictured (draws : Drawing) (drawn : PathView → ℕ → ℕ → �
 
 -- a pass was run: its events are an outcome of its batch, of which the changes are in the journal, its rows are in order, each tile was
 -- asked for once, and the picture is the job's
-pub record Ran (draws : Drawing) (drawn : PathView → ℕ → ℕ → ℕ → List ℕ → Type 0) (job : Job) (report : PassReport)
+pub record Ran (draws : Drawing) (drawn : RowRelation) (job : Job) (report : PassReport)
     (before after : MachineState) : Type 0 where
   pub setup : after.setup ≡ before.setup
   pub outcome : IsOutcome job.batch report.losses.elements report.events.elements
@@ -97,7 +96,7 @@ pub record Broke (job : Job) (before after : MachineState) : Type 0 where
   pub read : ArePartlyReadFor before.setup.shape before.setup.depth job.batch before.files after.files
 
 -- how the run of a pass ends: it was run, and the machine can go on; or memory was refused, and it can only be ended
-pub record EndsPassRun (draws : Drawing) (drawn : PathView → ℕ → ℕ → ℕ → List ℕ → Type 0) (idle : Type 0) (job : Job)
+pub record EndsPassRun (draws : Drawing) (drawn : RowRelation) (idle : Type 0) (job : Job)
     (result : Result PassReport NoMemory) (before after : MachineState) : Type 0 where
   pub ran : IfOk result (λ report. Ran draws drawn job report before after)
   pub goes_on : OnOk result idle

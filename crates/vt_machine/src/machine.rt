@@ -4,14 +4,13 @@ ghost use Rattle.std.specs.Prelude.{◌≡◌, ℕ, ◌<◌, Bool, List, [], len
 ghost use Rattle.std.specs.List.{concat};
 ghost use Rattle.vt_tiles.specs.Depths.{IsDepth};
 ghost use Rattle.vt_pages.specs.Pages.{IsWithinLimits};
-ghost use Rattle.vt_pictures.specs.Paths.{PathView};
 ghost use Rattle.vt_pictures.specs.Changes.{Table};
 ghost use Rattle.vt_tiles.specs.StoreViews.{IsStore};
 ghost use Rattle.vt_evict.specs.PlanTypes.batches.Planned.{Planned};
 ghost use Rattle.vt_outside.specs.declared.answers.NoMemory.{NoMemory as Refusal};
 ghost use Rattle.vt_machine.specs.declared.crew.PassReport.{PassReport as Report};
 ghost use Rattle.vt_pictures.specs.Scenes.{Scene};
-ghost use Rattle.vt_machine.specs.Drawings.{Drawing};
+ghost use Rattle.vt_machine.specs.Drawings.{Drawing, RowRelation};
 ghost use Rattle.vt_machine.specs.Jobs.{Job, job_of};
 ghost use Rattle.vt_machine.specs.Crews.{IsCrew, AreFrames};
 ghost use Rattle.vt_machine.specs.Machines.{MachineState, setup_of, files_of, known_bytes, AreStoresFor, IsIdleOrReady};
@@ -80,7 +79,7 @@ pub trait PassMachine: Sized {
     ghost is_ready: { Self → List Planned → Type 0 };
 
     /// By what it has done up to now, row y of a path's picture, drawn at a version, has these bytes.
-    ghost drawn: { Self → PathView → ℕ → ℕ → ℕ → List ℕ → Type 0 };
+    ghost drawn: { Self → RowRelation };
 
     /// What is so where want of memory ends the run of a pass: nothing, for machines that take all their memory before.
     ghost refuses: { Type 0 };

@@ -6,7 +6,6 @@ use Rattle.std.proofs.lemmas.List.{length-reverse, length-map}
 use Rattle.vt_outside.specs.Lists.{ListView}
 use Rattle.vt_outside.specs.declared.outside.File.{Ghosts as FileMeanings}
 use Rattle.vt_outside.specs.declared.answers.NoMemory.{NoMemory}
-use Rattle.vt_camera.specs.Paths.{PathView}
 use Rattle.vt_word_workers.specs.PicturesTypes.filters.Filter.{Ghosts as FilterMeanings}
 use Rattle.vt_tiles.specs.Format.{tile_length}
 use Rattle.vt_tiles.specs.StoreViews.{StoreView}
@@ -17,7 +16,7 @@ use Rattle.vt_word_workers.specs.QueuedLoaders.{QueuedView, HasLoaded, stores_of
 use Rattle.vt_word_workers.specs.Jobs.{Job}
 use Rattle.vt_word_workers.specs.All.{AllDid}
 use Rattle.vt_word_workers.specs.MachineTypes.crew.PassReport.{PassReport}
-use Rattle.vt_word_workers.specs.Drawings.{Drawing, drawing_of}
+use Rattle.vt_word_workers.specs.Drawings.{Drawing, drawing_of, RowRelation}
 use Rattle.vt_word_workers.specs.Machines.{MachineState, files_of, known_bytes}
 use Rattle.vt_word_workers.specs.Passes.{IsJobFor, IsUntouched, Ran, Broke, EndsPassRun}
 use Rattle.vt_word_workers.specs.BatchRounds.{BegunRound as Round}
@@ -42,7 +41,7 @@ pub same_but_picture : (a b : MachineState) → IsUntouched a b → b ≡ record
 same_but_picture a b h = λ i. record { setup = h.setup i; files = h.files i; journal = h.journal i; rows = b.rows; counts = b.counts }
 
 -- how a pass ends does not depend on the rows and counts before it
-module _ (draws : Drawing) (drawn : PathView → ℕ → ℕ → ℕ → List ℕ → Type 0) (job : Job) (a b c : MachineState) (h : IsUntouched a b) where
+module _ (draws : Drawing) (drawn : RowRelation) (job : Job) (a b c : MachineState) (h : IsUntouched a b) where
   -- what was run after the one was run after the other
   pub ran_after : (report : PassReport) → Ran draws drawn job report b c → Ran draws drawn job report a c
   ran_after report ran =

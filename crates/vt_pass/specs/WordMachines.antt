@@ -1,8 +1,7 @@
 -- The machine over shared words.
-use Rattle.std.specs.Prelude.{◌≡◌, ℕ, Option, None, Some, List, [], Result, IfOk}
+use Rattle.std.specs.Prelude.{◌≡◌, Option, None, Some, List, [], Result, IfOk}
 use Rattle.vt_outside.specs.declared.outside.File.{Ghosts as FileMeanings}
 use Rattle.vt_outside.specs.declared.answers.NoMemory.{NoMemory}
-use Rattle.vt_camera.specs.Paths.{PathView}
 use Rattle.vt_word_workers.specs.PicturesTypes.filters.Filter.{Ghosts as FilterMeanings}
 use Rattle.vt_journal.specs.declared.changes.Change.{Change}
 use Rattle.vt_grace.specs.Values.{WordsValue}
@@ -11,7 +10,7 @@ use Rattle.vt_word_workers.specs.LoadTypes.queued.Queues.{Queues}
 use Rattle.vt_word_workers.specs.QueuedLoaders.{QueuedView}
 use Rattle.vt_word_workers.specs.Jobs.{Job}
 use Rattle.vt_word_workers.specs.MachineTypes.crew.PassReport.{PassReport}
-use Rattle.vt_word_workers.specs.Drawings.{drawing_of}
+use Rattle.vt_word_workers.specs.Drawings.{drawing_of, RowRelation}
 use Rattle.vt_word_workers.specs.Machines.{MachineState}
 use Rattle.vt_word_workers.specs.Passes.{EndsPassRun}
 use Rattle.vt_word_workers.specs.WordSamplers.{WordSampler}
@@ -49,7 +48,7 @@ IsReadyBy g words q None k batch = ⊥
 IsReadyBy g words q (Some t) k batch = IsReadyPool g words q t k batch
 
 -- and over those of a streamer that may be out
-abbrev pub drawn_by : {F P : Type 0} → FilterMeanings P → WorkerPoolView F → Option WordStreamer → PathView → ℕ → ℕ → ℕ → List ℕ → Type 0
+abbrev pub drawn_by : {F P : Type 0} → FilterMeanings P → WorkerPoolView F → Option WordStreamer → RowRelation
 drawn_by filter k None path i y version bytes = ⊥
 drawn_by filter k (Some t) path i y version bytes = pool_drawn filter k t.streamer path i y version bytes
 

@@ -1,8 +1,7 @@
 -- The machine whose samplers share the rows of each picture.
-use Rattle.std.specs.Prelude.{◌≡◌, ℕ, ◌*◌, ◌≤◌, false, Option, None, Some, List, [], length, Result, IfOk}
+use Rattle.std.specs.Prelude.{◌≡◌, ◌*◌, ◌≤◌, false, Option, None, Some, List, [], length, Result, IfOk}
 use Rattle.vt_outside.specs.declared.outside.File.{Ghosts as FileMeanings}
 use Rattle.vt_outside.specs.declared.answers.NoMemory.{NoMemory}
-use Rattle.vt_camera.specs.Paths.{PathView}
 use Rattle.vt_pictures.specs.declared.filters.Filter.{Ghosts as FilterMeanings}
 use Rattle.vt_journal.specs.declared.changes.Change.{Change}
 use Rattle.vt_journal.specs.Changes.{newest}
@@ -13,7 +12,7 @@ use Rattle.vt_load.specs.declared.queued.Queues.{Queues}
 use Rattle.vt_load.specs.QueuedLoaders.{QueuedView}
 use Rattle.vt_machine.specs.Jobs.{Job}
 use Rattle.vt_machine.specs.declared.crew.PassReport.{PassReport}
-use Rattle.vt_machine.specs.Drawings.{Drawing, drawing_of}
+use Rattle.vt_machine.specs.Drawings.{Drawing, drawing_of, RowRelation}
 use Rattle.vt_machine.specs.Machines.{Setup, MachineState, files_of, known_bytes}
 use Rattle.vt_machine.specs.Outcomes.{IsBatchFor}
 use Rattle.vt_machine.specs.Passes.{EndsPassRun}
@@ -119,7 +118,7 @@ IsReadyBy g words q bag None k r batch = ⊥
 IsReadyBy g words q bag (Some t) k r batch = IsReadySteal g words q bag t k r batch
 
 -- what samplers have drawn up to now over the words of a streamer
-abbrev pub drawn_by : {P : Type 0} → FilterMeanings P → RowPool → Option WordStreamer → PathView → ℕ → ℕ → ℕ → List ℕ → Type 0
+abbrev pub drawn_by : {P : Type 0} → FilterMeanings P → RowPool → Option WordStreamer → RowRelation
 drawn_by filter r None path i y version bytes = ⊥
 drawn_by filter r (Some t) path i y version bytes = WasShared filter r.geometry r.depth r.count t.streamer.writer path i y version bytes
 

@@ -5,7 +5,6 @@ use Rattle.vt_outside.specs.Lists.{ListView}
 use Rattle.vt_outside.specs.declared.outside.File.{Ghosts as FileMeanings}
 use Rattle.vt_outside.specs.declared.answers.NoMemory.{NoMemory}
 use Rattle.vt_tiles.specs.Pages.{IsWithinLimits}
-use Rattle.vt_camera.specs.Paths.{PathView}
 use Rattle.vt_pictures.specs.declared.filters.Filter.{Ghosts as FilterMeanings}
 use Rattle.vt_pictures.specs.JournalTypes.changes.Change.{Change}
 use Rattle.vt_pictures.specs.Changes.{newest}
@@ -14,7 +13,7 @@ use Rattle.vt_load.specs.declared.queued.Queues.{Queues}
 use Rattle.vt_load.specs.QueuedLoaders.{QueuedView}
 use Rattle.vt_loading.specs.Jobs.{Job}
 use Rattle.vt_loading.specs.MachineTypes.crew.PassReport.{PassReport}
-use Rattle.vt_loading.specs.Drawings.{drawing_of}
+use Rattle.vt_loading.specs.Drawings.{drawing_of, RowRelation}
 use Rattle.vt_loading.specs.Machines.{Setup, MachineState, files_of, known_bytes}
 use Rattle.vt_loading.specs.Outcomes.{IsBatchFor}
 use Rattle.vt_loading.specs.Passes.{EndsPassRun}
@@ -116,7 +115,7 @@ IsReadyBy g slots q start None k r batch = ⊥
 IsReadyBy g slots q start (Some t) k r batch = IsReadySwap g slots q start t k r batch
 
 -- what samplers have drawn up to now by the log of a streamer
-abbrev pub drawn_by : {P : Type 0} → FilterMeanings P → SamplerPool → Option SwapStreamerTask → PathView → ℕ → ℕ → ℕ → List ℕ → Type 0
+abbrev pub drawn_by : {P : Type 0} → FilterMeanings P → SamplerPool → Option SwapStreamerTask → RowRelation
 drawn_by filter r None path i y version bytes = ⊥
 drawn_by filter r (Some t) path i y version bytes = WasDrawn filter r.geometry r.depth r.count t.streamer r.tasks.elements path i y version bytes
 

@@ -5,7 +5,6 @@ use Rattle.std.proofs.lemmas.List.Sums.{sum_by-cons}
 use Rattle.vt_pages.specs.Limits.{most_versions, most_entries}
 use Rattle.vt_pages.specs.Shape.{Shape}
 use Rattle.vt_pages.specs.Pages.{pages_of, root_of}
-use Rattle.vt_camera.specs.Paths.{PathView}
 use Rattle.vt_journal.specs.declared.changes.Change.{Change}
 use Rattle.vt_journal.specs.declared.changes.Event.{Event}
 use Rattle.vt_journal.specs.Changes.{newest}
@@ -16,7 +15,7 @@ use Rattle.vt_evict.specs.PlanTypes.batches.Planned.{Planned}
 use Rattle.vt_plan.specs.Views.{RecencyView, pages_needed}
 use Rattle.vt_evict.specs.Batches.{IsLawfulBatch, IsSettledByReads, read_entries}
 use Rattle.vt_plan.specs.Plans.{plan_of}
-use Rattle.vt_walk_decisions.specs.Drawings.{Drawing}
+use Rattle.vt_walk_decisions.specs.Drawings.{Drawing, RowRelation}
 use Rattle.vt_walk_decisions.specs.MachineTypes.machine.PassMachine.{Ghosts as MachineMeanings}
 use Rattle.vt_walk_decisions.specs.MachineTypes.crew.PassReport.{PassReport}
 use Rattle.vt_walk_decisions.specs.Crews.{last_start}
@@ -123,7 +122,7 @@ wants_for s f g wants same h = record {
 }
 
 -- a pass that was run was run, however its rows came about
-pub ran_anyhow : (draws : Drawing) (drawn : PathView → ℕ → ℕ → ℕ → List ℕ → Type 0) (job : Job) (report : PassReport) (s t : MachineState)
+pub ran_anyhow : (draws : Drawing) (drawn : RowRelation) (job : Job) (report : PassReport) (s t : MachineState)
     → Ran draws drawn job report s t → Ran draws AnyRow job report s t
 ran_anyhow draws drawn job report s t ran = record {
   setup = ran.setup;
@@ -168,7 +167,7 @@ pub record HasRoom (step : WalkStep) (events : List Event) : Type 0 where
   pub reads : step.reads + length step.batch.elements < 2 ^ 64
 
 -- however the run of a pass ended, its files were read for a part of its batch at most
-pub read_for_job : (draws : Drawing) (drawn : PathView → ℕ → ℕ → ℕ → List ℕ → Type 0) (idle : Type 0) (job : Job) (m after : MachineState)
+pub read_for_job : (draws : Drawing) (drawn : RowRelation) (idle : Type 0) (job : Job) (m after : MachineState)
     (result : Result PassReport NoMemory) → IsJobFor m.setup job → EndsPassRun draws drawn idle job result m after
     → ArePartlyReadFor job.scene.shape job.scene.depth job.batch m.files after.files
 read_for_job draws drawn idle job m after (Ok report) is ends =
@@ -236,7 +235,7 @@ module _ (draws : Drawing)
       (record { shape = refl; depth = refl; width = refl; height = refl; picture = may.more })
 
   -- a pass that was run was read for
-  pub read_at_most : (drawn : PathView → ℕ → ℕ → ℕ → List ℕ → Type 0) (run : List WalkPass) (number : ℕ) (step : WalkStep)
+  pub read_at_most : (drawn : RowRelation) (run : List WalkPass) (number : ℕ) (step : WalkStep)
       (m after : MachineState) (v : RecencyView) (report : PassReport)
       → MayTakeStep (given_of draws t known) run number step m v
       → Ran draws drawn (record { scene = input_scene t; picture = step.picture; batch = step.batch.elements }) report m after

@@ -1,13 +1,12 @@
 -- A pass that was run is the next of the run.
-use Rattle.std.proofs.Common.{◌≡◌, ℕ, ◌<◌, Bool, List, ◌∷◌, ◌++◌, length, sym, ap, ◌∙◌, subst}
-use Rattle.vt_camera.specs.Paths.{PathView}
+use Rattle.std.proofs.Common.{◌≡◌, ◌<◌, Bool, List, ◌∷◌, ◌++◌, length, sym, ap, ◌∙◌, subst}
 use Rattle.vt_journal.specs.declared.changes.Change.{Change}
 use Rattle.vt_journal.specs.JournalText.{changes_of}
 use Rattle.vt_feedback.specs.declared.Wanted.{Wanted}
 use Rattle.vt_feedback.specs.Wants.{IsWants}
 use Rattle.vt_plan.specs.Views.{RecencyView}
 use Rattle.vt_evict.specs.Batches.{IsSettledByReads, read_entries}
-use Rattle.vt_walk_decisions.specs.Drawings.{Drawing}
+use Rattle.vt_walk_decisions.specs.Drawings.{Drawing, RowRelation}
 use Rattle.vt_walk_decisions.specs.MachineTypes.crew.PassReport.{PassReport}
 use Rattle.vt_walk_decisions.specs.Jobs.{Job}
 use Rattle.vt_walk_decisions.specs.RowOrders.{AreRowsInOrder}
@@ -16,7 +15,7 @@ use Rattle.vt_walk_decisions.specs.Passes.{Ran}
 use Rattle.vt_walk.specs.Fits.{WalkSetup}
 use Rattle.vt_walk.specs.Runs.{WalkPass, walk_pass_of, journal_after, recency_after, plan_after, IsStepOf, IsNextPass}
 
-module _ (draws : Drawing) (drawn : PathView → ℕ → ℕ → ℕ → List ℕ → Type 0) where
+module _ (draws : Drawing) (drawn : RowRelation) where
   pub journal_grown : (w : WalkSetup) (before : List WalkPass) (job : Job) (report : PassReport) (wants : List Wanted)
       (settled : RecencyView) (s t : MachineState)
       → Ran draws drawn job report s t → s.journal ≡ journal_after w before

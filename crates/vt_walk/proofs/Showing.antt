@@ -2,14 +2,13 @@
 use Rattle.std.proofs.Common.{◌≡◌, ◌≢◌, ℕ, zero, suc, ◌+◌, ◌≤◌, ◌==◌, Bool, true, false, T, eqb→eq, List, [], ◌∷◌, ◌++◌, length, Option, Some, None, refl, sym, ap, ◌∙◌, subst, length-append, arith}
 use Rattle.std.specs.Prelude.{slice_get, slice_index_or, if◌then◌else◌, flat_map, IfSome}
 use Rattle.std.specs.List.{concat, range_with_len}
-use Rattle.vt_camera.specs.Paths.{PathView}
 use Rattle.vt_journal.specs.declared.changes.Change.{Change}
 use Rattle.vt_journal.specs.declared.changes.RowLine.{RowLine}
 use Rattle.vt_journal.specs.Changes.{Table, at}
 use Rattle.vt_journal.specs.JournalText.{changes_of}
 use Rattle.vt_journal.proofs.Versions.{at-front}
 use Rattle.vt_walk_decisions.specs.Jobs.{Job}
-use Rattle.vt_walk_decisions.specs.Drawings.{Drawing}
+use Rattle.vt_walk_decisions.specs.Drawings.{Drawing, RowRelation}
 use Rattle.vt_walk_decisions.specs.Machines.{MachineState}
 use Rattle.vt_walk_decisions.specs.Passes.{IsPictured}
 use Rattle.vt_walk_decisions.specs.Replays.{HasPixels}
@@ -76,7 +75,7 @@ if_some : {X : Type 0} (o : Option X) (x : X) (P : X → Type 0) → o ≡ Some 
 if_some o x P e h = subst (λ p. IfSome p P) e h
 
 pub picture_drawn : (w : WalkSetup) (p : WalkPass) (passes : List WalkPass) (draws : Drawing)
-    (drawn : PathView → ℕ → ℕ → ℕ → List ℕ → Type 0) (job : Job) (s : MachineState) (b : List ℕ) → IsPictured draws drawn job p.rows s
+    (drawn : RowRelation) (job : Job) (s : MachineState) (b : List ℕ) → IsPictured draws drawn job p.rows s
     → s.setup.bytes ≡ Some b
     → s.setup.height ≡ w.height → s.journal ≡ journal_after w (p ∷ passes) → job.picture ≡ p.picture
     → IsRunPicture w (p ∷ passes) s.setup.depth s.setup.width (draws.shows job.scene b) p.picture (concat s.rows)

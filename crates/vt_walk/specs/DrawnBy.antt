@@ -3,6 +3,7 @@ use Rattle.std.specs.Prelude.{◌≡◌, ℕ, Some, List, [], slice_get, slice_i
 use Rattle.vt_camera.specs.Paths.{PathView}
 use Rattle.vt_journal.specs.declared.changes.RowLine.{RowLine}
 use Rattle.vt_walk_decisions.specs.MachineTypes.machine.PassMachine.{Ghosts as MachineMeanings}
+use Rattle.vt_walk_decisions.specs.Drawings.{RowRelation}
 use Rattle.vt_walk_decisions.specs.Machines.{MachineState}
 
 -- a picture of a path, with a line for each of its rows, as a machine in some state has drawn it
@@ -19,5 +20,5 @@ pub record IsDrawnBySome {M F Shared Loader Sampler Streamer : Type 0} (kind : M
   pub each : (y : ℕ) (line : RowLine) → slice_get lines y ≡ Some line → kind.drawn machine path picture y line.version (slice_index_or s.rows y [])
 
 -- any row, by any machine
-abbrev pub AnyRow : PathView → ℕ → ℕ → ℕ → List ℕ → Type 0
+abbrev pub AnyRow : RowRelation
 AnyRow path picture y version bytes = Unit {0}

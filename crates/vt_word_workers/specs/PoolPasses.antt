@@ -20,7 +20,7 @@ use Rattle.vt_load.specs.QueuedLoaders.{QueuedView, AreOf, stores_of}
 use Rattle.vt_loading.specs.Jobs.{Job}
 use Rattle.vt_loading.specs.All.{AllDid}
 use Rattle.vt_loading.specs.MachineTypes.crew.PassReport.{PassReport}
-use Rattle.vt_loading.specs.Drawings.{drawing_of}
+use Rattle.vt_loading.specs.Drawings.{drawing_of, RowRelation}
 use Rattle.vt_loading.specs.Machines.{known_bytes}
 use Rattle.vt_loading.specs.Passes.{IsJobFor, Ran}
 use Rattle.vt_loading.specs.BatchRounds.{BegunRound as Round, IsEndedRound}
@@ -44,7 +44,7 @@ pub record WasDrawn {P : Type 0} (filter : FilterMeanings P) (s : Shape) (d samp
   pub held : Contains by.held version
 
 -- what the samplers of a pool have drawn up to now over the words of a streamer
-abbrev pub pool_drawn : {F P : Type 0} → FilterMeanings P → WorkerPoolView F → StreamerView → PathView → ℕ → ℕ → ℕ → List ℕ → Type 0
+abbrev pub pool_drawn : {F P : Type 0} → FilterMeanings P → WorkerPoolView F → StreamerView → RowRelation
 pool_drawn filter k v path i y version bytes = WasDrawn filter k.shape k.depth k.crew.samplers v.writer path i y version bytes
 
 -- the workers were moved out of a pool, with passes of the queues that were split off
