@@ -1,6 +1,6 @@
 //! What streams and draws, as its callers see it.
 
-ghost use Rattle.std.specs.Prelude.{◌≡◌, ℕ, ◌<◌, Bool, List, [], length, Result, IfOk, IfErr, OnOk, OnErr};
+ghost use Rattle.std.specs.Prelude.{◌≡◌, ℕ, ◌<◌, Bool, List, [], ◌++◌, length, Result, IfOk, IfErr, OnOk, OnErr};
 ghost use Rattle.std.specs.List.{concat};
 ghost use Rattle.vt_tiles.specs.Depths.{IsDepth};
 ghost use Rattle.vt_pages.specs.Pages.{IsWithinLimits};
@@ -265,6 +265,11 @@ pub trait PassMachine: Sized {
     fn picture(&self, alloc: Global) -> Result<Vec<u8>, NoMemory>
         requires { is_idle self.now }
         ensures { IfOk result (λ picture. picture.items ≡ concat (state self.now).rows) };
+
+    /// Adds these samples to what a buffer holds. After want of memory it may have gained some of them.
+    fn picture_into(&self, out: &mut Vec<u8>) -> Result<(), NoMemory>
+        requires { is_idle self.now }
+        ensures { OnOk result (out.new.items ≡ out.old.items ++ concat (state self.now).rows) };
 
     /// Ends the machine, and hands the stores back with the states of their files.
     fn end<Rt: Threads + Wait + Sync>(self, rt: &Rt) -> Stores<Self::File>

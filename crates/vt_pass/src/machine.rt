@@ -235,7 +235,13 @@ impl<F: File + Send, P: Filter + Sync> PassMachine for WordMachineBy<F, P> {
     }
 
     fn picture(&self, alloc: Global) -> Result<Vec<u8>, NoMemory> {
-        self.pool.picture(alloc)
+        let mut picture = Vec::new(alloc);
+        self.pool.picture_into(&mut picture)?;
+        Ok(picture)
+    }
+
+    fn picture_into(&self, out: &mut Vec<u8>) -> Result<(), NoMemory> {
+        self.pool.picture_into(out)
     }
 
     fn end<Rt: Threads + Wait + Sync>(self, _rt: &Rt) -> Stores<Self::File> {

@@ -141,7 +141,9 @@ impl<F: File> PassKit<F> {
         requires { IsWorkerPool F.File self.now.pool }
         ensures { IfOk result (λ picture. picture.items ≡ concat (pool_rows self.now.pool)) }
     {
-        self.pool.picture(alloc)
+        let mut picture = Vec::new(alloc);
+        self.pool.picture_into(&mut picture)?;
+        Ok(picture)
     }
 }
 

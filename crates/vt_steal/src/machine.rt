@@ -234,7 +234,13 @@ impl<F: File + Send, P: Filter + Sync> PassMachine for StealMachineBy<F, P> {
     }
 
     fn picture(&self, alloc: Global) -> Result<Vec<u8>, NoMemory> {
-        self.rows.picture(alloc)
+        let mut picture = Vec::new(alloc);
+        self.rows.picture_into(&mut picture)?;
+        Ok(picture)
+    }
+
+    fn picture_into(&self, out: &mut Vec<u8>) -> Result<(), NoMemory> {
+        self.rows.picture_into(out)
     }
 
     fn end<Rt: Threads + Wait + Sync>(self, _rt: &Rt) -> Stores<Self::File> {

@@ -1,6 +1,6 @@
 //! What the samplers that share the rows of pictures work with.
 
-ghost use Rattle.std.specs.Prelude.{◌≡◌, ◌≤◌, IfOk, OnOk, length};
+ghost use Rattle.std.specs.Prelude.{◌≡◌, ◌≤◌, ◌++◌, IfOk, OnOk, length};
 ghost use Rattle.std.specs.List.{concat};
 ghost use Rattle.vt_definitions.specs.Limits.{most_samplers};
 ghost use Rattle.vt_definitions.specs.Depths.{IsDepth};
@@ -140,15 +140,15 @@ impl RowPool {
     }
 
     /// The samples of the last pass's picture: its rows from the top. It asks for their memory once.
-    pub(crate) fn picture(&self, alloc: Global) -> Result<Vec<u8>, NoMemory>
+    pub(crate) fn picture_into(&self, out: &mut Vec<u8>) -> Result<(), NoMemory>
         requires { IsIdleRows self.now }
-        ensures { IfOk result (λ picture. picture.items ≡ concat (bytes_of self.now.drawn.elements)) }
+        ensures { OnOk result (out.new.items ≡ out.old.items ++ concat (bytes_of self.now.drawn.elements)) }
     {
         let line = texel_length(self.depth) * self.width as usize;
-        let mut picture = Vec::with_capacity(alloc, line * self.height as usize)?;
+        out.reserve(line * self.height as usize)?;
         for y in 0..self.drawn.len() {
-            picture.extend_from_slice(self.drawn.at(y).samples.slice())?;
+            out.extend_from_slice(self.drawn.at(y).samples.slice())?;
         }
-        Ok(picture)
+        Ok(())
     }
 }

@@ -248,7 +248,13 @@ impl<F: File + Send, P: Filter + Sync> PassMachine for SwapMachineBy<F, P> {
     }
 
     fn picture(&self, alloc: Global) -> Result<Vec<u8>, NoMemory> {
-        self.sampling.picture(alloc)
+        let mut picture = Vec::new(alloc);
+        self.sampling.picture_into(&mut picture)?;
+        Ok(picture)
+    }
+
+    fn picture_into(&self, out: &mut Vec<u8>) -> Result<(), NoMemory> {
+        self.sampling.picture_into(out)
     }
 
     fn end<Rt: Threads + Wait + Sync>(self, rt: &Rt) -> Stores<Self::File> {

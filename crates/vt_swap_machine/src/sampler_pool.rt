@@ -1,6 +1,6 @@
 //! What the samplers of a pass over a page cache are done with.
 
-ghost use Rattle.std.specs.Prelude.{◌≡◌, ◌<◌, ◌≤◌, ◌^◌, ℕ, All, IfOk, OnOk, length};
+ghost use Rattle.std.specs.Prelude.{◌≡◌, ◌<◌, ◌≤◌, ◌^◌, ℕ, ◌++◌, All, IfOk, OnOk, length};
 ghost use Rattle.std.specs.List.{concat};
 ghost use Rattle.vt_swap.specs.Caches.{Cache};
 ghost use Rattle.vt_definitions.specs.Limits.{most_samplers};
@@ -164,15 +164,15 @@ impl SamplerPool {
     }
 
     /// The samples of the last pass's picture: its rows from the top. It asks for their memory once.
-    pub(crate) fn picture(&self, alloc: Global) -> Result<Vec<u8>, NoMemory>
+    pub(crate) fn picture_into(&self, out: &mut Vec<u8>) -> Result<(), NoMemory>
         requires { IsSamplerPool self.now self.now.tasks.elements }
-        ensures { IfOk result (λ picture. picture.items ≡ concat (drawn_rows self.now)) }
+        ensures { OnOk result (out.new.items ≡ out.old.items ++ concat (drawn_rows self.now)) }
     {
         let line = texel_length(self.depth) * self.width as usize;
-        let mut picture = Vec::with_capacity(alloc, line * self.height as usize)?;
+        out.reserve(line * self.height as usize)?;
         for y in 0..self.height {
-            picture.extend_from_slice(self.row(y))?;
+            out.extend_from_slice(self.row(y))?;
         }
-        Ok(picture)
+        Ok(())
     }
 }

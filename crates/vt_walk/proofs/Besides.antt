@@ -1,6 +1,6 @@
 -- A picture that is written while the next one's first pass is run.
 use Rattle.std.proofs.Common.{◌≡◌, ℕ, ◌+◌, ◌<◌, ◌≤◌, ◌⊎◌, inr, List, ◌∷◌, length, Option, Result, Ok, Err, refl, sym, ap, subst, take, arith}
-use Rattle.std.specs.Prelude.{option_map, All}
+use Rattle.std.specs.Prelude.{option_map}
 use Rattle.std.specs.List.{concat}
 use Rattle.vt_outside.specs.Counts.{Rose}
 use Rattle.vt_outside.specs.Files.{with_bytes, gained}
@@ -14,7 +14,6 @@ use Rattle.vt_journal.specs.Changes.{Table}
 use Rattle.vt_tiles.specs.StoreViews.{IsStore}
 use Rattle.vt_plan.specs.Views.{RecencyView}
 use Rattle.vt_walk_decisions.specs.Scenes.{Scene}
-use Rattle.vt_walk_decisions.specs.Replays.{IsFull}
 use Rattle.vt_walk_decisions.specs.Jobs.{Job}
 use Rattle.vt_walk_decisions.specs.MachineTypes.crew.PassReport.{PassReport}
 use Rattle.vt_walk_decisions.specs.Drawings.{Drawing}
@@ -40,7 +39,7 @@ use Rattle.vt_walk.specs.Writing.{WritesFile}
 use Rattle.vt_walk.specs.WalkSteps.{MayTakeStep, HasDrawnPass, StandsAtStep, StandsAfter, LeftByRefusal}
 use Rattle.vt_walk.specs.Following.{StandsRan, StandsDrawn}
 use Rattle.vt_walk.proofs.Advancing.{may_prepare, is_job, read_at_most}
-use Rattle.vt_walk.proofs.Ending.{rows_count, rows_full, stays, next_may, next_picture, picture_broke, line_broke}
+use Rattle.vt_walk.proofs.Ending.{stays, next_may, next_picture, picture_broke, line_broke}
 use Rattle.vt_walk.proofs.Going.{room_left}
 use Rattle.vt_walk.proofs.Passing.{may_draw, pass_broke}
 
@@ -75,12 +74,6 @@ module _ (draws : Drawing) (drawn : PictureDrawn)
     (input : IsWalkInput t) where
   abbrev given : WalkGiven
   given = given_of draws t known
-
-  pub picture_rows : (was : WalkState) → StandsAfter drawn given number p first was m v → length m.rows ≡ t.path.now.height
-  picture_rows was s = rows_count draws drawn law (input_scene t) t.settings t.mode known (names_of t.names) number p first m v was s
-
-  pub full_rows : (was : WalkState) → StandsAfter drawn given number p first was m v → All (IsFull t.depth t.path.now.width) m.rows
-  full_rows was s = rows_full draws drawn law (input_scene t) t.settings t.mode known (names_of t.names) number p first m v was s
 
   pub left_after : (was : WalkState) → StandsAfter drawn given number p first was m v → (e : WalkError) → e ≡ walk_error.NoMemory
       → LeftByRefusal drawn given first was e

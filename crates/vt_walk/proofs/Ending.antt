@@ -1,6 +1,6 @@
 -- The step after a pass.
 use Rattle.std.proofs.Common.{◌≡◌, ℕ, ◌+◌, ◌<◌, ◌≤◌, ◌≢◌, ◌⊎◌, inl, inr, Bool, List, [], ◌∷◌, length, Option, refl, sym, ap, ◌∙◌, subst, take, arith}
-use Rattle.std.specs.Prelude.{option_map, IsSome, IsTrue, ◌↔◌, All, slice_index_or, if◌then◌else◌}
+use Rattle.std.specs.Prelude.{option_map, IsSome, IsTrue, ◌↔◌, if◌then◌else◌}
 use Rattle.std.specs.List.{concat}
 use Rattle.vt_outside.specs.Counts.{Rose}
 use Rattle.vt_outside.specs.Files.{Files, Asked, with_bytes, gained}
@@ -17,8 +17,7 @@ use Rattle.vt_walk_decisions.specs.Scenes.{Scene}
 use Rattle.vt_walk_decisions.specs.Drawings.{Drawing}
 use Rattle.vt_walk_decisions.specs.Outcomes.{lost_count}
 use Rattle.vt_walk_decisions.specs.Requests.{FileState, AllKnown, ArePartlyReadFor, counts_of}
-use Rattle.vt_walk_decisions.specs.Machines.{Setup, MachineState}
-use Rattle.vt_walk_decisions.specs.Replays.{IsFull}
+use Rattle.vt_walk_decisions.specs.Machines.{MachineState}
 use Rattle.vt_walk_decisions.specs.Passes.{MapsNeeded}
 use Rattle.vt_walk_decisions.specs.declared.error.WalkError.{WalkError}
 use Rattle.vt_walk_decisions.specs.declared.error.WalkError.TheVariants as walk_error
@@ -111,14 +110,6 @@ module _ (draws : Drawing)
     (m : MachineState) (v : RecencyView) where
   abbrev given : WalkGiven
   given = given_by draws scene settings mode known names
-
-  -- rows of a picture are full
-  pub rows_count : (was : WalkState) → StandsAfter drawn given number p first was m v → length m.rows ≡ scene.path.height
-  rows_count was s = s.has_run.ran.picture.count ∙ ap (λ (x : Setup). x.height) s.at_run.setup
-
-  pub rows_full : (was : WalkState) → StandsAfter drawn given number p first was m v → All (IsFull scene.depth scene.path.width) m.rows
-  rows_full was s = subst (λ (x : Setup). (k : ℕ) (d : List ℕ) → k < length m.rows
-      → IsFull x.depth x.width (slice_index_or m.rows k d)) s.at_run.setup s.has_run.ran.picture.full
 
   goes : (was : WalkState) (s : StandsAfter drawn given number p first was m v) → (mode ≡ Settled → p.lost ≡ 0)
       → (mode ≡ Settled → p.next_plan.needed ≤ room_beside_pinned given.setup)

@@ -10,7 +10,6 @@ pub mod Stepping
 pub mod Asking
 pub mod Bounds
 pub mod Advancing
-pub mod Rows
 pub mod Nexts
 pub mod Asks
 pub mod Apart

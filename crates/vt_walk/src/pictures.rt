@@ -1,6 +1,6 @@
 //! What is written of a finished picture, and the last line.
 
-ghost use Rattle.std.specs.Prelude.{◌≡◌, ◌⊎◌, ℕ, ◌+◌, ◌<◌, ◌≤◌, ◌++◌, take, length, All, IfOk, OnOk, OnErr, IsErrOf, option_map, string_bytes};
+ghost use Rattle.std.specs.Prelude.{◌≡◌, ◌⊎◌, ℕ, ◌+◌, ◌<◌, ◌≤◌, ◌++◌, take, length, IfOk, OnOk, OnErr, IsErrOf, option_map, string_bytes};
 ghost use Rattle.std.specs.List.{concat};
 ghost use Rattle.vt_ppm.specs.Depths.{IsDepth};
 ghost use Rattle.vt_outside.specs.Counts.{Rose};
@@ -8,7 +8,6 @@ ghost use Rattle.vt_outside.specs.Files.{with_bytes, gained};
 ghost use Rattle.vt_text.specs.Numbers.{number_spelling};
 ghost use Rattle.vt_ppm.specs.Picture.{picture_bytes};
 ghost use Rattle.vt_pictures.specs.Names.{four_digit_numbers, picture_name};
-ghost use Rattle.vt_walk_decisions.specs.Replays.{IsFull};
 ghost use Rattle.vt_walk.specs.Logs.{end_line};
 ghost use Rattle.vt_walk.specs.Tallies.{numbers_line};
 
@@ -17,7 +16,7 @@ use std::alloc::Global;
 use vt_camera::Path;
 use vt_outside::{Folder, NoMemory, OutsideError, Sink};
 use vt_pictures::picture_name;
-use vt_ppm::encode_into;
+use vt_ppm::begin_picture;
 use vt_text::{LINE_ROOM, Line};
 use vt_walk_decisions::{PassMachine, Tally};
 
@@ -35,8 +34,6 @@ pub fn write_picture<D: Folder, M: PassMachine>(
 ) -> Result<(), OutsideError>
     requires idle { M.is_idle machine.now }
     requires depth { IsDepth depth }
-    requires count { length (M.state machine.now).rows ≡ path.now.height }
-    requires full { All (IsFull depth path.now.width) (M.state machine.now).rows }
     requires few { picture < four_digit_numbers }
     ensures whole { OnOk result (D.files folder.new ≡ option_map (with_bytes (picture_name prefix.now picture)
         (picture_bytes depth path.now.width path.now.height (concat (M.state machine.now).rows)))
@@ -65,15 +62,13 @@ pub fn make_picture<M: PassMachine>(
 ) -> Result<String, NoMemory>
     requires idle { M.is_idle machine.now }
     requires depth { IsDepth depth }
-    requires count { length (M.state machine.now).rows ≡ path.now.height }
-    requires full { All (IsFull depth path.now.width) (M.state machine.now).rows }
     requires few { picture < four_digit_numbers }
     ensures bytes { OnOk result (buffer.new.items ≡ picture_bytes depth path.now.width path.now.height
         (concat (M.state machine.now).rows)) }
     ensures name { IfOk result (λ name. string_bytes name ≡ picture_name prefix.now picture) }
 {
-    let samples = machine.picture(alloc)?;
-    encode_into(buffer, alloc, depth, path.width(), path.height(), &samples)?;
+    begin_picture(buffer, alloc, depth, path.width(), path.height())?;
+    machine.picture_into(buffer)?;
     let name = picture_name(alloc, prefix, picture)?;
     Ok(name)
 }

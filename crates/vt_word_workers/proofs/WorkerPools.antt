@@ -116,6 +116,12 @@ concat_push (y ∷ xs) x = ap (λ t. y ++ t) (concat_push xs x) ∙ sym (append_
 pub joined_more : (f : ℕ → List ℕ) (y : ℕ) → concat (map f (range_with_len 0 (y + 1))) ≡ concat (map f (range_with_len 0 y)) ++ f y
 joined_more f y = let z : 0 + y ≡ y = omega arith in ap concat (map-range_with_len_more f 0 y y z) ∙ concat_push (map f (range_with_len 0 y)) (f y)
 
+-- one row more behind what was there before
+pub more_joined : (f : ℕ → List ℕ) (y : ℕ) (before now row : List ℕ) → now ≡ before ++ concat (map f (range_with_len 0 y)) → row ≡ f y
+    → now ++ row ≡ before ++ concat (map f (range_with_len 0 (y + 1)))
+more_joined f y before now row joined is =
+    (λ i. joined i ++ is i) ∙ append_assoc before (concat (map f (range_with_len 0 y))) (f y) ∙ sym (ap (λ (l : List ℕ). before ++ l) (joined_more f y))
+
 -- a row is one of the rows of the sampler that it is dealt to
 pub own_turn : {F : Type 0} (g : FileMeanings F) (k : WorkerPoolView F) (y : ℕ) (task : WordSampler) → IsWorkerPool g k → y < k.height
     → slice_get k.samplers (y % k.crew.samplers) ≡ Some task → IsOwn task.sampler y

@@ -1,6 +1,6 @@
 //! What a pass over shared words uses.
 
-ghost use Rattle.std.specs.Prelude.{◌≡◌, ℕ, ◌^◌, ◌<◌, ◌≤◌, OnOk, List, [], length, slice_index, IfOk, IfErr, All};
+ghost use Rattle.std.specs.Prelude.{◌≡◌, ℕ, ◌^◌, ◌<◌, ◌≤◌, OnOk, List, [], ◌++◌, length, slice_index, IfOk, IfErr, All};
 ghost use Rattle.std.specs.List.{concat};
 ghost use Rattle.vt_definitions.specs.Limits.{most_samplers};
 ghost use Rattle.vt_definitions.specs.Depths.{IsDepth};
@@ -285,18 +285,18 @@ impl<F: File> WorkerPool<F> {
         self.samplers.at(dealt_to as usize).sampler.row(y)
     }
 
-    /// The samples of the last pass's picture: its rows from the top. It asks for their memory once.
-    #[tactic(auto, using(crate::proofs::WorkerPools::joined_more))]
-    pub fn picture(&self, alloc: Global) -> Result<Vec<u8>, NoMemory>
+    /// Adds the samples of the last pass's picture, its rows from the top, to what a buffer holds. It asks for their memory once.
+    /// After want of memory the buffer may have gained some of them.
+    pub fn picture_into(&self, out: &mut Vec<u8>) -> Result<(), NoMemory>
         requires pool { IsWorkerPool F.File self.now }
-        ensures { IfOk result (λ picture. picture.items ≡ concat (pool_rows self.now)) }
+        ensures { OnOk result (out.new.items ≡ out.old.items ++ concat (pool_rows self.now)) }
     {
         let line = texel_length(self.depth) * self.width as usize;
-        let mut picture = Vec::with_capacity(alloc, line * self.height as usize)?;
+        out.reserve(line * self.height as usize)?;
         for y in 0..self.height {
-            picture.extend_from_slice(self.row(y))?;
+            out.extend_from_slice(self.row(y))?;
         }
-        Ok(picture)
+        Ok(())
     }
 
     /// Moves the workers out: a loader for each store, and the samplers.

@@ -7,33 +7,13 @@ use Rattle.vt_walk.specs.States.{walk_state}
 use Rattle.vt_walk.specs.WalkInputs.{given_of}
 use Rattle.vt_walk.specs.WalkSteps.{LeftByRefusal}
 use Rattle.vt_walk.specs.DrawnBy.{IsDrawnBySome}
-use Rattle.vt_walk.proofs.Besides.{ran_as, picture_rows, full_rows, left_after, plan_broke, is_drawn}
+use Rattle.vt_walk.proofs.Besides.{ran_as, left_after, plan_broke, is_drawn}
 use Rattle.vt_walk.proofs.Keeping.{kept_here}
 use Rattle.vt_walk.proofs.beside.draw_beside.Goals as goal
 
 pub make_picture-requires-clause-few : goal.make_picture-requires-clause-few
 make_picture-requires-clause-few g c κs within =
     let i = c.requires.stands.1.passed.inside in let e = c.requires.stands.1.passed.picture in let few = c.requires.input.pictures in omega (arith, i, e, few)
-
-pub make_picture-requires-clause-count : goal.make_picture-requires-clause-count
-make_picture-requires-clause-count g c κs within =
-    let b = c.requires.stands.0 in
-    picture_rows g.M.PassMachine.drawing (IsDrawnBySome g.M.PassMachine)
-    (g.met.M.PassMachine g.world.𝓛 g.world.𝓜 g.world.𝓡 ((λ s x. x), (λ x. x), (λ x. x), λ x. x)).shows_whole
-    c.args.input.now b.known c.args.number c.args.passed b.first
-    (g.M.PassMachine.state c.args.machine.now) c.args.recency.now c.requires.input
-    (walk_state g.D.Folder c.args.input.now.names.store.now c.args.folder.now (b.kept ∷ (g.M.PassMachine.state c.args.machine.now).files)
-    (g.O.Sink.held c.args.out.now) (g.O.Sink.faults c.args.out.now)) c.requires.stands.1
-
-pub make_picture-requires-clause-full : goal.make_picture-requires-clause-full
-make_picture-requires-clause-full g c κs within =
-    let b = c.requires.stands.0 in
-    full_rows g.M.PassMachine.drawing (IsDrawnBySome g.M.PassMachine)
-    (g.met.M.PassMachine g.world.𝓛 g.world.𝓜 g.world.𝓡 ((λ s x. x), (λ x. x), (λ x. x), λ x. x)).shows_whole
-    c.args.input.now b.known c.args.number c.args.passed b.first
-    (g.M.PassMachine.state c.args.machine.now) c.args.recency.now c.requires.input
-    (walk_state g.D.Folder c.args.input.now.names.store.now c.args.folder.now (b.kept ∷ (g.M.PassMachine.state c.args.machine.now).files)
-    (g.O.Sink.held c.args.out.now) (g.O.Sink.faults c.args.out.now)) c.requires.stands.1
 
 pub plan_on-requires-clause-ran : goal.plan_on-requires-clause-ran
 plan_on-requires-clause-ran g c κs within =

@@ -6,7 +6,7 @@ use Rattle.vt_walk.specs.States.{walk_state}
 use Rattle.vt_walk.specs.WalkInputs.{input_scene}
 use Rattle.vt_walk.specs.DrawnBy.{IsDrawnBySome}
 use Rattle.vt_walk_decisions.specs.Judging.{IsEnd}
-use Rattle.vt_walk.proofs.Ending.{rows_count, rows_full, same_picture, next_picture, picture_broke, line_broke}
+use Rattle.vt_walk.proofs.Ending.{same_picture, next_picture, picture_broke, line_broke}
 use Rattle.vt_walk.proofs.Going.{room_left}
 use Rattle.vt_walk.proofs.Keeping.{kept_here}
 use Rattle.vt_walk.proofs.walk_steps.end_step.Goals as goal
@@ -28,24 +28,6 @@ pub write_picture-requires-clause-few : goal.write_picture-requires-clause-few
 write_picture-requires-clause-few g c κs within =
     let i = c.requires.stands.3.passed.inside in let e = c.requires.stands.3.passed.picture in
     let few = c.requires.input.pictures in omega (arith, i, e, few)
-
-pub write_picture-requires-clause-count : goal.write_picture-requires-clause-count
-write_picture-requires-clause-count g c κs within = rows_count g.M.PassMachine.drawing
-    (IsDrawnBySome g.M.PassMachine) g.met.M.PassMachine.shows_whole (input_scene c.args.input.now) c.args.input.now.settings c.args.input.now.mode
-    c.requires.stands.2.known (names_of c.args.input.now.names)
-    c.requires.stands.0 c.args.passed c.requires.stands.2.first (g.M.PassMachine.state c.args.machine.now) c.requires.stands.1
-    (walk_state g.D.Folder c.args.input.now.names.store.now c.args.folder.now
-    (c.requires.stands.2.kept ∷ (g.M.PassMachine.state c.args.machine.now).files) (g.O.Sink.held c.args.out.now) (g.O.Sink.faults c.args.out.now))
-    c.requires.stands.3
-
-pub write_picture-requires-clause-full : goal.write_picture-requires-clause-full
-write_picture-requires-clause-full g c κs within = rows_full g.M.PassMachine.drawing
-    (IsDrawnBySome g.M.PassMachine) g.met.M.PassMachine.shows_whole (input_scene c.args.input.now) c.args.input.now.settings c.args.input.now.mode
-    c.requires.stands.2.known (names_of c.args.input.now.names)
-    c.requires.stands.0 c.args.passed c.requires.stands.2.first (g.M.PassMachine.state c.args.machine.now) c.requires.stands.1
-    (walk_state g.D.Folder c.args.input.now.names.store.now c.args.folder.now
-    (c.requires.stands.2.kept ∷ (g.M.PassMachine.state c.args.machine.now).files) (g.O.Sink.held c.args.out.now) (g.O.Sink.faults c.args.out.now))
-    c.requires.stands.3
 
 pub returns-in_err-write_picture-clause-ended : goal.returns-in_err-write_picture-clause-ended
 returns-in_err-write_picture-clause-ended g c =

@@ -1,11 +1,11 @@
-use Rattle.std.proofs.Common.{◌≡◌, ◌<◌, ◌++◌, List, length, take, get_or, ap, sym, ◌∙◌, arith}
+use Rattle.std.proofs.Common.{◌≡◌, ◌<◌, ◌++◌, ℕ, List, length, take, get_or, ap, sym, ◌∙◌, append_assoc, arith}
 use Rattle.std.specs.List.{concat}
 use Rattle.std.proofs.lemmas.List.{take_more}
 use Rattle.std.proofs.lemmas.Option.{get_or_from_slice_get}
 use Rattle.vt_shared_rows.specs.declared.bag.RowJob.{RowJob}
 use Rattle.vt_steal.specs.RowEnds.{bytes_of}
 use Rattle.vt_steal.proofs.Making.{bytes_push}
-use Rattle.vt_steal.proofs.row_pool.RowPool.picture.Goals as goal
+use Rattle.vt_steal.proofs.row_pool.RowPool.picture_into.Goals as goal
 
 pub loop-y-preserved : goal.loop-y-preserved
 loop-y-preserved c =
@@ -17,5 +17,7 @@ loop-y-preserved c =
     record {
       joined = c.in_ok-extend_from_slice.ensures.items
           ∙ (λ i. c.loop-y.invariant.joined i ++ (c.slice.ensures ∙ ap (λ (j : RowJob). j.samples.elements) (sym here)) i)
-          ∙ sym (ap (λ (l : List RowJob). concat (bytes_of l)) (take_more jobs y job inside) ∙ bytes_push (take y jobs) (get_or jobs y job));
+          ∙ append_assoc c.args.out.now.items (concat (bytes_of (take y jobs))) (get_or jobs y job).samples.elements
+          ∙ sym (ap (λ (l : List ℕ). c.args.out.now.items ++ l)
+          (ap (λ (l : List RowJob). concat (bytes_of l)) (take_more jobs y job inside) ∙ bytes_push (take y jobs) (get_or jobs y job)));
     }
