@@ -1,5 +1,5 @@
 -- A walk between two passes, and after a pass.
-use Rattle.std.specs.Prelude.{◌≡◌, ℕ, ◌+◌, ◌<◌, ◌≤◌, IsTrue, ◌↔◌, List, [], ◌∷◌, length, Option, IsSome}
+use Rattle.std.specs.Prelude.{◌≡◌, ℕ, ◌+◌, ◌<◌, ◌≤◌, IsTrue, ◌↔◌, List, [], ◌∷◌, length, Option, IsSome, Result, MatchResult}
 use Rattle.vt_ppm.specs.Depths.{IsDepth}
 use Rattle.vt_pages.specs.Pages.{IsWithinLimits}
 use Rattle.vt_tiles.specs.StoreViews.{IsStoreIfKnown}
@@ -149,3 +149,10 @@ pub record StandsLast (drawn : PictureDrawn) (g : WalkGiven) (reads : ℕ) (firs
 -- a refused walk has left what it may, for its cause
 abbrev pub LeftByRefusal : PictureDrawn → WalkGiven → WalkState → WalkState → WalkError → Type 0
 LeftByRefusal drawn g first now error = Left drawn g first now × IsCausedBy drawn g first now error
+
+-- a walk begins at its first step, or is refused, whatever its sink holds and has failed
+abbrev pub BeginsWalk : PictureDrawn → WalkGiven → (Option (List ℕ) → ℕ → WalkState) → (Option (List ℕ) → ℕ → WalkState) → MachineState
+    → Result RecencyView WalkError → Type 0
+BeginsWalk drawn g first now m result = (held : Option (List ℕ)) (out_faults : ℕ)
+    → MatchResult result (λ v. StandsFirst drawn g (first held out_faults) (now held out_faults) m v)
+    (LeftByRefusal drawn g (first held out_faults) (now held out_faults))

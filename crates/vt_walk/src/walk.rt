@@ -1,6 +1,6 @@
 //! Walks.
 
-ghost use Rattle.std.specs.Prelude.{◌≡◌, ℕ, ◌<◌, ◌≤◌, List, [], ◌∷◌, sum, Option, is_some, IfOk, MatchResult, OnOk};
+ghost use Rattle.std.specs.Prelude.{◌≡◌, ◌<◌, ◌≤◌, [], ◌∷◌, sum, is_some, IfOk, OnOk};
 ghost use Rattle.vt_outside.specs.Files.{bytes_at};
 ghost use Rattle.vt_pages.specs.Pages.{pinned_of};
 ghost use Rattle.vt_tiles.specs.StoreViews.{IsStoreIfKnown};
@@ -10,7 +10,7 @@ ghost use Rattle.vt_walk.specs.Walks.{given_to, walk_setup, mode_of, AreSettings
 ghost use Rattle.vt_walk.specs.Counts.{HasCounts};
 ghost use Rattle.vt_walk.specs.States.{walk_state, places_of, AreOpen};
 ghost use Rattle.vt_walk.specs.DrawnBy.{IsDrawnBySome};
-ghost use Rattle.vt_walk.specs.WalkSteps.{StandsFirst, LeftByRefusal};
+ghost use Rattle.vt_walk.specs.WalkSteps.{BeginsWalk};
 ghost use Rattle.vt_walk.specs.WalkEffects.{walk_effect, file_of, Walks};
 ghost use Rattle.vt_walk.specs.WalkInputs.{given_of, setup_of_input, IsWalkInput};
 ghost use Rattle.vt_walk.specs.Beginnings.{IsBegun, AreKnown, IsSameFile, KeepsFiles};
@@ -316,17 +316,11 @@ fn begin<Rt: Threads + Wait + Sync, M: PassMachine, D: Folder>(
     requires begins { IsBegun (given_of M.drawing input.now (D.File.bytes store.old.file))
         (M.state machine.old) }
     requires all_known { AreKnown (D.asked folder.old) (file_state D.File.File store.old.file ∷ (M.state machine.old).files) }
-    ensures begun { (held : Option (List ℕ)) (out_faults : ℕ) → let drawn = IsDrawnBySome M.PassMachine in
-        let given = given_of M.drawing input.now (D.File.bytes store.old.file) in
-        let name = input.now.names.store.now in
-        let first = walk_state D.Folder name folder.old (file_state D.File.File store.old.file
-        ∷ (M.state machine.old).files)
-        held out_faults in
-        let last = walk_state D.Folder name folder.new (file_state D.File.File store.new.file
-        ∷ (M.state machine.new).files)
-        held out_faults in
-        MatchResult result (λ recency. StandsFirst drawn given first last (M.state machine.new) recency)
-        (LeftByRefusal drawn given first last) }
+    ensures begun { BeginsWalk (IsDrawnBySome M.PassMachine) (given_of M.drawing input.now (D.File.bytes store.old.file))
+        (walk_state D.Folder input.now.names.store.now folder.old
+        (file_state D.File.File store.old.file ∷ (M.state machine.old).files))
+        (walk_state D.Folder input.now.names.store.now folder.new
+        (file_state D.File.File store.new.file ∷ (M.state machine.new).files)) (M.state machine.new) result }
     ensures idle { OnOk result (M.is_idle machine.new) }
     ensures kept { KeepsFiles D.Folder folder.old folder.new (file_state D.File.File store.old.file)
         (file_state D.File.File store.new.file) (M.state machine.old).files (M.state machine.new).files }
