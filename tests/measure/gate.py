@@ -29,7 +29,10 @@ TICKS = os.sysconf("SC_CLK_TCK")
 KINDS = ("proof", "again for edits", "edits", "tests")
 # What the gate's price is measured by: the proofs of these crates.
 UNIT = ("vt_outside", "vt_ppm")
-# A crate whose own proof takes more seconds than this has at most so many must-fail edits.
+# The limit of the gate, in units and in minutes of four processors: the same on a machine where a unit takes so many seconds.
+LIMIT, MINUTES = 32, 45
+EVEN = MINUTES * 60 * 4 / LIMIT
+# A crate whose own proof takes more seconds than this on such a machine has at most so many must-fail edits.
 LONG, FEW = 60, 2
 # Where the page has the table: from its head to the end of the lines on the longest chain.
 PAGE, PLACE = f"{TOP}/docs/PROVING.md", re.compile(r"^\| crate \| proof .*?^The longest chain takes .*?\n(?=\n)", re.DOTALL | re.MULTILINE)
@@ -227,10 +230,14 @@ def show(log, least=0.025):
     )
     unit = sum(rows[crate][0] for crate in UNIT if crate in rows)
     if unit:
-        say(f"That is {spent / unit:.1f} times the {unit:.0f} seconds of the proofs of {' and '.join(UNIT)}.")
-    many = sorted(crate for crate, row in rows.items() if row[0] > LONG and row[4] > FEW)
+        say(
+            f"That is {spent / unit:.1f} times the {unit:.0f} seconds of the proofs of {' and '.join(UNIT)}. Where {LIMIT} of these are "
+            f"{MINUTES} minutes of four processors, it is {spent / unit * EVEN / 240:.0f} minutes."
+        )
+    long = LONG * (unit or EVEN) / EVEN
+    many = sorted(crate for crate, row in rows.items() if row[0] > long and row[4] > FEW)
     if many:
-        say(f"More than {FEW} edits, and a proof of more than {LONG} seconds: {', '.join(many)}.")
+        say(f"More than {FEW} edits, and a proof of more than {long:.0f} seconds: {', '.join(many)}.")
     together, chain = longest_chain(checks, crates())
     say(f"The longest chain takes {together:.0f} seconds by the clock: " + ", ".join(f"{crate} {took:.0f}" for crate, took in chain) + ".")
 
