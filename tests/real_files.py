@@ -26,7 +26,7 @@ from journals import Journal, replay
 from judge import FAULT, LINES, Doubt, Left, flaws_of_walk
 from real_rows import BLANKS, DEFAULTS, GENERATED, HEAD, JOURNALS, KEYS, LARGE_OTHERS, LARGE_PATH, LARGE_STORES, LONG_SIDES, NO_STORES, ODD, OPTIONS
 from real_rows import OTHERS, PATHS, PICTURES, READ_WORDS, REFUSALS, REFUSED_TEXTURES, REFUSED_WORDS, STORE_FLAWS, STORES, TEXTURES, WALKS, bad_input
-from real_runs import ALONE, FAR_PATH, FAR_PRINTED, FAR_RUNS, FLIGHTS, LEAST, MANY, RUNS, SHOWN, TOUR, WALKED
+from real_runs import ALONE, FLIGHTS, LEAST, MANY, RUNS, SHOWN, TOUR, WALKED
 from reference import walk_words, write
 from rows import FOUR_STORE, wrong_rows
 from stores import Path, Store, contents
@@ -545,16 +545,6 @@ def walks_alike(check):
         check.say(is_done(check.run(MANY), alone.stdout) and pictures("f") == wanted, "%s: walk %d" % (MANY, number))
 
 
-def far_walk(check):
-    """A settled walk over far more pages than frames: its log is what its pages give, its pictures are plain and those of its journal."""
-    write("a.path", FAR_PATH)
-    ran = [check.run(words) for words in FAR_RUNS]
-    good = all((it.returncode, it.stderr) == (0, b"") for it in ran) and b"".join(it.stdout for it in ran) == FAR_PRINTED
-    found = pictures("p")
-    check.say(good, "a walk over many pages: status, lines or errors")
-    check.say(len(found) == 60 and pictures("f") == found and pictures("r") == found, "a walk over many pages: pictures")
-
-
 def most_frames(check):
     """The frames of a walk have 8,388,608 texels at most: 32,768 of them where each has 16x16."""
     check.say(is_done(check.run("tile g4.ppm s.vts --tile 16"), b"store 4 4 tile 16 levels 1 pages 1 bytes 784\n"), "a store of large tiles")
@@ -627,7 +617,6 @@ TABLES = [
     (try_walked, WALKED),
     (try_flight, [(run,) for run in FLIGHTS]),
     (walks_alike, [()]),
-    (far_walk, [()]),
     (most_frames, [()]),
     (try_trial, [()]),
 ]
