@@ -139,7 +139,7 @@ impl RowPool {
         mem::replace(&mut self.tasks, Items::new(self.alloc))
     }
 
-    /// The samples of the last pass's picture: its rows from the top. It asks for their memory once.
+    /// Adds the samples of the last pass's picture, its rows from the top, to `out`. It asks for their memory once.
     pub(crate) fn picture_into(&self, out: &mut Vec<u8>) -> Result<(), NoMemory>
         requires { IsIdleRows self.now }
         ensures { OnOk result (out.new.items ≡ out.old.items ++ concat (bytes_of self.now.drawn.elements)) }

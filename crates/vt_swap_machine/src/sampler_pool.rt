@@ -163,7 +163,7 @@ impl SamplerPool {
         self.tasks.at(dealt_to as usize).sampler.row(y)
     }
 
-    /// The samples of the last pass's picture: its rows from the top. It asks for their memory once.
+    /// Adds the samples of the last pass's picture, its rows from the top, to `out`. It asks for their memory once.
     pub(crate) fn picture_into(&self, out: &mut Vec<u8>) -> Result<(), NoMemory>
         requires { IsSamplerPool self.now self.now.tasks.elements }
         ensures { OnOk result (out.new.items ≡ out.old.items ++ concat (drawn_rows self.now)) }
