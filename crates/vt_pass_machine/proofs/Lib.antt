@@ -1,0 +1,8 @@
+mod Listed
+mod Fills
+mod Replaying
+mod PartlyRead
+mod Idle
+mod Placing
+mod Preparing
+mod Finishing

@@ -1,0 +1,10 @@
+use Rattle.vt_machine.proofs.Ready.{part_is_there}
+use Rattle.vt_pass_machine.specs.Machines.{IsIdleBy, IsReadyBy}
+use Rattle.vt_pass_machine.proofs.machine.MachinePassMachine.journal.Goals as goal
+
+pub unreachable-requires : goal.unreachable-requires
+unreachable-requires g c =
+    let m = c.args.self.now in
+    part_is_there (λ t. IsIdleBy g.F.File g.T.PageTable m.shared.table t m.streams m.pool)
+    (λ t. IsReadyBy g.F.File g.T.PageTable g.S.Schedule m.shared.table m.shared.rows m.shared.queues t m.streams m.pool) m.streamer c.in-None.is
+    (λ no. no) (λ batch no. no) c.requires

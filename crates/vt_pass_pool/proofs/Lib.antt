@@ -1,0 +1,10 @@
+mod Listed
+pub mod Stills
+mod MadeSamplers
+mod Placement
+mod Closing
+mod SameSamplers
+mod Readying
+mod Rising
+mod Drawn
+mod Finishing

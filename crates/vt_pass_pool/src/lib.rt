@@ -1,0 +1,14 @@
+//! The samplers of a machine between its passes: they are made, made ready for a pass, and brought home after it with the rows that they
+//! drew: for all page tables and schedules.
+#![tactic(auto)]
+
+mod ending;
+mod making;
+mod opening;
+mod placing;
+mod pool;
+mod returning;
+
+pub use pool::PassPool;
+pub use vt_pass_rows::PassSampler;
+pub use vt_schedules::RowJob;

@@ -1,0 +1,15 @@
+use Rattle.std.proofs.Common.{ℕ, List, length, sym, ap, ◌∙◌, subst}
+use Rattle.vt_pictures.specs.Shots.{shot_row}
+use Rattle.vt_pictures.specs.Evidence.{AreShown}
+use Rattle.vt_shared_rows.proofs.Keepers.{refilled}
+use Rattle.vt_pass_rows.proofs.rows.draw_job.Goals as goal
+
+pub returns-clause-drawn : goal.returns-clause-drawn
+returns-clause-drawn g c =
+    let s = c.args.shot.now.geometry.now in
+    let path = c.args.shot.now.path.now in
+    let d = c.args.shot.now.depth in
+    let drawn = c.draw_row-version in
+    subst (λ (l : List ℕ). AreShown g.P.Filter.shown s d drawn.result (g.T.PageTable.says drawn.new.reader)
+    (shot_row s path c.args.shot.now.picture c.args.job.row) path.width l)
+    (sym (refilled c.args.job.samples.elements drawn.new.out (drawn.auto.out ∙ ap length c.slice_mut.ensures.value))) drawn.ensures.drawn

@@ -1,0 +1,2 @@
+pub mod DrawnRows
+pub mod PassSamplers

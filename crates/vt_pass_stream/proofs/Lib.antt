@@ -1,0 +1,3 @@
+mod Taking
+mod Lasting
+mod Applying

@@ -1,0 +1,91 @@
+//! A batch is streamed, result by result, until there was one for each entry.
+
+ghost use Rattle.std.specs.Prelude.{◌≡◌, ℕ, ◌+◌, ◌*◌, ◌<◌, ◌≤◌, ◌^◌, ◌++◌, false, true, length, All};
+ghost use Rattle.vt_definitions.specs.Depths.{IsDepth};
+ghost use Rattle.vt_machine.specs.Changes.{newest};
+ghost use Rattle.vt_machine.specs.Format.{tile_length};
+ghost use Rattle.vt_machine.specs.Outcomes.{IsBatchFor};
+ghost use Rattle.vt_queue.specs.Queues.{queue_view_of, queue_splits_of, IsPassOfQueue};
+ghost use Rattle.vt_requests.specs.BatchRounds.{result_events, AreLossesOf};
+ghost use Rattle.vt_requests.specs.TakenResults.{Streams};
+ghost use Rattle.vt_requests.specs.BlankReports.{IsBlank};
+ghost use Rattle.vt_pass_stream.specs.Streamed.{HasStreamedAll};
+
+use crate::results::{is_kept, stream_result};
+use std::sync::Wait;
+use std::thread::Threads;
+use vt_definitions::texel_length;
+use vt_machine::Planned;
+use vt_outside::Gate;
+use vt_page_table::PageTable;
+use vt_pages::Geometry;
+use vt_queue::{Loaded, QueuePass, ResultQueue};
+use vt_requests::StreamReport;
+use vt_streaming::take_result;
+
+// How many bytes a tile has.
+fn tile_size(geometry: &Geometry, depth: u32) -> usize
+    requires { IsDepth depth }
+    ensures { result ≡ tile_length geometry.now depth }
+{
+    let side = geometry.tile() as usize;
+    side * side * texel_length(depth)
+}
+
+/// Takes results until there was one for each entry of a batch, and applies each to the entry of its ticket as it comes: where the
+/// tile was read, the victim is unmapped, the frame filled and the page mapped; where it is lost, that is noted. Other results are
+/// dropped: those whose ticket is no entry's or was taken before in this call, and those whose buffer has not the length of a tile
+/// of this depth. It tells whether memory was refused; from then on results are taken and noted, and not applied. It may wait, with a
+/// pause before each new look. The gate is told of each version.
+pub fn stream_into<T: PageTable, Rt: Threads + Wait, G: Gate>(
+    rt: &Rt,
+    shared: &T::Shared,
+    writer: &mut T::Writer,
+    geometry: &Geometry,
+    depth: u32,
+    results: &ResultQueue,
+    answers: &mut QueuePass<Loaded>,
+    batch: &[Planned],
+    into: &mut StreamReport,
+    gate: &G,
+) -> bool
+    requires of { T.is_of shared.now writer.old }
+    requires shape { T.shape writer.old ≡ geometry.now }
+    requires depth { IsDepth depth }
+    requires answers { IsPassOfQueue results.now answers.old }
+    requires lawful { IsBatchFor (T.shape writer.old) (T.frame_count writer.old) (newest (T.journal writer.old)) batch.now }
+    requires few { length batch.now < 2 ^ 32 }
+    requires room { T.has_room writer.old (2 * length batch.now) }
+    requires report { IsBlank (length batch.now) into.old }
+    ensures of { T.is_of shared.now writer.new }
+    ensures shape { T.shape writer.new ≡ T.shape writer.old }
+    ensures frames { T.frame_count writer.new ≡ T.frame_count writer.old }
+    ensures home { (k : ℕ) (r : T.Reader) → T.is_home writer.old k r → T.is_home writer.new k r }
+    ensures answers { IsPassOfQueue results.now answers.new × (queue_splits_of answers.new ≡ queue_splits_of answers.old) }
+    ensures took { Streams (length batch.now) (queue_view_of answers.old) (queue_view_of answers.new) into.new.taken.elements
+        into.new.results.elements }
+    ensures all { length into.new.results.elements ≡ length batch.now }
+    ensures losses { AreLossesOf batch.now into.new.results.elements into.new.losses.elements }
+    ensures tiles { All (λ x. length x.request.buffer.elements ≡ tile_length (T.shape writer.old) depth) into.new.results.elements }
+    ensures streamed { result ≡ false → HasStreamedAll T.PageTable depth batch.now into.new.results.elements writer.old writer.new }
+    ensures events { result ≡ false → into.new.events.elements
+        ≡ into.old.events.elements ++ result_events batch.now into.new.results.elements }
+    ensures refused { result ≡ true → T.refuses }
+{
+    let size = tile_size(geometry, depth);
+    let mut refused = false;
+    let mut done = 0;
+    for _ in rt.forever() {
+        if done >= batch.len() {
+            return refused;
+        }
+        let loaded = take_result(rt, results, answers);
+        if is_kept(size, &into.taken, &loaded) {
+            refused = stream_result::<T, Rt, G>(
+                rt, shared, writer, batch, loaded, depth, refused, into, gate,
+            );
+            done += 1;
+        }
+    }
+    unreachable!()
+}

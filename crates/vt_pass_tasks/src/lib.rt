@@ -1,0 +1,7 @@
+//! The workers of a pass over any page table: samplers, loaders and the streamer as tasks.
+#![tactic(auto)]
+
+mod shared;
+mod tasks;
+
+pub use shared::{PassShared, PassStreamer};

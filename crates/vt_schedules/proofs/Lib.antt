@@ -1,0 +1,6 @@
+mod Lists
+mod Taking
+mod AllDealt
+mod AllShared
+mod Dealing
+mod Ways

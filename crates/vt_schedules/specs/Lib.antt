@@ -1,0 +1,5 @@
+pub mod Rows
+pub mod Dealt
+pub mod DealtLaws
+pub mod Sharing
+pub mod SharingLaws

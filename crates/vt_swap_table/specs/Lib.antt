@@ -1,0 +1,5 @@
+pub mod Entered
+pub mod SwapReaders
+pub mod SwapWriters
+pub mod LogPrefixes
+pub mod SwapLaws

@@ -1,0 +1,3 @@
+pub mod WordReaders
+pub mod WordWriters
+pub mod WordLaws
