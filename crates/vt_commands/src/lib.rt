@@ -8,5 +8,8 @@ mod waiting;
 
 pub use at_once::{may_wait, run_at_once};
 pub use command::{Command, read_command};
-pub use vt_walk_commands::{Machines, PassMachine, usage_line};
+pub use vt_walk_commands::{
+    Bilinear, BlendMachine, Machines, PassMachine, StealMachine, SwapMachine, WordMachine,
+    usage_line, walk_live, walk_settled,
+};
 pub use waiting::run_waiting;

@@ -1,2 +1,19 @@
+pub use Rattle.vt_machine.specs.All
+pub use Rattle.vt_machine.specs.Outcomes
+pub use Rattle.vt_machine.specs.PlanTypes
+pub use Rattle.vt_pictures.specs.Changes
+pub use Rattle.vt_pictures.specs.DrawLookups
+pub use Rattle.vt_pictures.specs.Evidence
+pub use Rattle.vt_pictures.specs.FilterLaws
+pub use Rattle.vt_pictures.specs.Paths
+pub use Rattle.vt_pictures.specs.Replays
+pub use Rattle.vt_pictures.specs.Rows
+pub use Rattle.vt_pictures.specs.Scenes
+pub use Rattle.vt_pictures.specs.Shots
+pub use Rattle.vt_pictures.specs.declared as PicturesTypes
+pub use Rattle.vt_tiles.specs.Format
+pub use Rattle.vt_tiles.specs.Pages
+pub use Rattle.vt_tiles.specs.Shape
+pub use Rattle.vt_tiles.specs.StoreViews
 pub mod Readers
 pub mod Fills

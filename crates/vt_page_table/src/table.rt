@@ -23,8 +23,8 @@ use std::alloc::Global;
 use std::sync::Wait;
 use vt_machine::{Journal, Planned, Shot};
 use vt_outside::{Gate, Items, NoMemory};
-use vt_pages::Geometry;
 use vt_pictures::Filter;
+use vt_tiles::Geometry;
 
 /// A page table that one writer changes while readers draw from it, each sampler by a reader of its own.
 ///

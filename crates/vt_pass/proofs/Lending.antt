@@ -22,7 +22,7 @@ use Rattle.vt_word_workers.specs.GivenPasses.{HasGiven}
 use Rattle.vt_word_workers.specs.HeldPasses.{IsHeldRow, AreHeldRows}
 use Rattle.vt_word_workers.specs.WorkerPools.{WorkerPoolView, pool_setup, pool_state, IsReadyPool, pool_rows}
 use Rattle.vt_word_workers.specs.PoolPasses.{Begun, AreOut, MayFinish, PoolRan, pool_before, pool_drawn}
-use Rattle.vt_pass.specs.WordLaws.{ran_after, begun, pool_back, same_pool}
+use Rattle.vt_pass.proofs.PoolBack.{ran_after, begun, pool_back, same_pool}
 use Rattle.vt_word_workers.specs.Noted.{AreNotedRows}
 
 module _ {F P : Type 0} (g : FileMeanings F) (filter : FilterMeanings P) (words : WordsValue) (q : Queues) (was b d : WordStreamer) (k l : WorkerPoolView F) (job : Job)

@@ -1,4 +1,7 @@
-pub use Rattle.vt_word_workers.proofs.WorkerPools
+pub use Rattle.vt_word_workers.proofs.Growing
+pub use Rattle.vt_word_workers.proofs.Rooms
 pub use Rattle.vt_word_workers.proofs.Sharing
-pub mod Idle
-pub mod Lending
+pub use Rattle.vt_word_workers.proofs.StoreRooms
+pub use Rattle.vt_word_workers.proofs.WorkerPools
+mod PoolBack
+mod Lending

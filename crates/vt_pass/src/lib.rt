@@ -1,14 +1,8 @@
-//! The machine over a page table of shared words, whose batch is streamed while its pictures are drawn, and a pass over words
-//! that its caller holds.
+//! A pass over words and a streamer that its caller holds: its batch is streamed while its picture is drawn.
 #![tactic(auto)]
 
-mod machine;
 mod pass;
 mod pass_kit;
-mod place;
-mod prepare;
 
-pub use machine::{WordMachine, WordMachineBy};
 pub use pass_kit::{PassKit, run_pass, run_pass_by};
-pub use place::place_page;
-pub use vt_word_workers::{LentShared, WordSampler, WordShared, WordStreamer};
+pub use vt_word_workers::{LentShared, WordSampler, WordStreamer};

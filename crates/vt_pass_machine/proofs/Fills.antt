@@ -4,17 +4,17 @@ use Rattle.std.specs.Prelude.{All, IfSome}
 use Rattle.std.proofs.lemmas.Bool.{false≢true}
 use Rattle.std.proofs.lemmas.List.Elements.{All-contains}
 use Rattle.vt_outside.specs.Files.{IsPiece}
-use Rattle.vt_pages.specs.Shape.{Shape}
-use Rattle.vt_tiles.specs.Format.{tile_length, tile_start}
-use Rattle.vt_queue.specs.declared.items.Loaded.{Loaded}
-use Rattle.vt_queue.specs.declared.items.Outcome.{Outcome}
-use Rattle.vt_queue.specs.declared.items.Outcome.TheVariants.{Read, Lost}
+use Rattle.vt_load.specs.Shape.{Shape}
+use Rattle.vt_load.specs.Format.{tile_length, tile_start}
+use Rattle.vt_load.specs.QueueTypes.items.Loaded.{Loaded}
+use Rattle.vt_load.specs.QueueTypes.items.Outcome.{Outcome}
+use Rattle.vt_load.specs.QueueTypes.items.Outcome.TheVariants.{Read, Lost}
 use Rattle.vt_load.specs.Readings.{is_lost}
 use Rattle.vt_load.specs.Results.{IsGood}
-use Rattle.vt_machine.specs.PlanTypes.batches.Planned.{Planned}
-use Rattle.vt_requests.specs.BatchRounds.{IsResultOf}
-use Rattle.vt_page_table.specs.Fills.{AreTexelWords, IsStoredPage, AreStoredPages, FillsOne}
-use Rattle.vt_pass_stream.specs.Streamed.{area, IsFillOf, FillsOf}
+use Rattle.vt_loading.specs.PlanTypes.batches.Planned.{Planned}
+use Rattle.vt_loading.specs.BatchRounds.{IsResultOf}
+use Rattle.vt_pass_pool.specs.Fills.{AreTexelWords, IsStoredPage, AreStoredPages, FillsOne}
+use Rattle.vt_pass_pool.specs.Streamed.{area, IsFillOf, FillsOf}
 
 was_read : (o : Outcome) → is_lost o ≡ false → o ≡ Read
 was_read Read e = refl

@@ -4,44 +4,44 @@ use Rattle.std.specs.Prelude.{slice_get, All, IfOk, OnOk, IfSome}
 use Rattle.std.proofs.lemmas.List.{length-map}
 use Rattle.std.proofs.lemmas.List.Elements.{All-map}
 use Rattle.std.proofs.lemmas.Option.{slice_get-get_or}
-use Rattle.vt_definitions.specs.Dealing.{sampler_of}
+use Rattle.vt_pass_pool.specs.Dealing.{sampler_of}
 use Rattle.vt_outside.specs.declared.outside.File.{Ghosts as FileMeanings}
 use Rattle.vt_outside.specs.declared.answers.NoMemory.{NoMemory}
-use Rattle.vt_pages.specs.Shape.{Shape}
-use Rattle.vt_pages.specs.Pages.{pages_of, IsWithinLimits}
-use Rattle.vt_tiles.specs.Format.{stored}
-use Rattle.vt_tiles.specs.StoreViews.{IsStoreIfKnown}
-use Rattle.vt_pictures.specs.JournalTypes.changes.Change.{Change}
-use Rattle.vt_pictures.specs.JournalTypes.changes.Event.{Event}
-use Rattle.vt_pictures.specs.JournalTypes.changes.RowLine.{RowLine}
-use Rattle.vt_pictures.specs.JournalText.{changes_of}
-use Rattle.vt_pictures.specs.declared.filters.Filter.{Ghosts as FilterMeanings}
-use Rattle.vt_pictures.specs.Evidence.{AreShown}
-use Rattle.vt_pictures.specs.FilterLaws.{IsUnder}
-use Rattle.vt_pictures.specs.Replays.{IsFull, AreReplayed}
-use Rattle.vt_pictures.specs.Shots.{shot_row}
+use Rattle.vt_load.specs.Shape.{Shape}
+use Rattle.vt_pass_pool.specs.Pages.{pages_of, IsWithinLimits}
+use Rattle.vt_load.specs.Format.{stored}
+use Rattle.vt_load.specs.StoreViews.{IsStoreIfKnown}
+use Rattle.vt_pass_pool.specs.JournalTypes.changes.Change.{Change}
+use Rattle.vt_pass_pool.specs.JournalTypes.changes.Event.{Event}
+use Rattle.vt_pass_pool.specs.JournalTypes.changes.RowLine.{RowLine}
+use Rattle.vt_pass_pool.specs.JournalText.{changes_of}
+use Rattle.vt_pass_pool.specs.PicturesTypes.filters.Filter.{Ghosts as FilterMeanings}
+use Rattle.vt_pass_pool.specs.Evidence.{AreShown}
+use Rattle.vt_pass_pool.specs.FilterLaws.{IsUnder}
+use Rattle.vt_pass_pool.specs.Replays.{IsFull, AreReplayed}
+use Rattle.vt_pass_pool.specs.Shots.{shot_row}
 use Rattle.vt_load.specs.declared.queued.Queues.{Queues}
 use Rattle.vt_load.specs.QueuedLoaders.{QueuedView}
-use Rattle.vt_machine.specs.Jobs.{Job}
-use Rattle.vt_machine.specs.declared.crew.PassReport.{PassReport}
-use Rattle.vt_machine.specs.Machines.{files_of, known_bytes}
-use Rattle.vt_machine.specs.Outcomes.{IsOutcome}
-use Rattle.vt_machine.specs.RowOrders.{AreRowsInOrder}
-use Rattle.vt_machine.specs.Requests.{AreReadFor}
-use Rattle.vt_machine.specs.Passes.{IsPictured, Ran, Broke, EndsPassRun}
-use Rattle.vt_requests.specs.BatchRounds.{result_events}
+use Rattle.vt_loading.specs.Jobs.{Job}
+use Rattle.vt_loading.specs.MachineTypes.crew.PassReport.{PassReport}
+use Rattle.vt_loading.specs.Machines.{files_of, known_bytes}
+use Rattle.vt_loading.specs.Outcomes.{IsOutcome}
+use Rattle.vt_loading.specs.RowOrders.{AreRowsInOrder}
+use Rattle.vt_loading.specs.Requests.{AreReadFor}
+use Rattle.vt_loading.specs.Passes.{IsPictured, Ran, Broke, EndsPassRun}
+use Rattle.vt_loading.specs.BatchRounds.{result_events}
 use Rattle.vt_loading.specs.LoaderPools.{LoaderPoolView, stream_before, HasEndedStream}
-use Rattle.vt_page_table.specs.declared.table.PageTable.{Ghosts as TableMeanings}
-use Rattle.vt_page_table.specs.Fills.{AreStoredPages}
-use Rattle.vt_shared_rows.specs.declared.bag.RowJob.{RowJob}
-use Rattle.vt_schedules.specs.declared.schedule.Schedule.{Ghosts as ScheduleMeanings}
-use Rattle.vt_pass_rows.specs.declared.sampler.PassSampler.{PassSampler}
-use Rattle.vt_pass_stream.specs.Streamed.{area, FillsOf, HasStreamedAll}
+use Rattle.vt_pass_pool.specs.PageTableTypes.table.PageTable.{Ghosts as TableMeanings}
+use Rattle.vt_pass_pool.specs.Fills.{AreStoredPages}
+use Rattle.vt_pass_pool.specs.SchedulesTypes.bag.RowJob.{RowJob}
+use Rattle.vt_pass_pool.specs.SchedulesTypes.schedule.Schedule.{Ghosts as ScheduleMeanings}
+use Rattle.vt_pass_pool.specs.PassRowsTypes.sampler.PassSampler.{PassSampler}
+use Rattle.vt_pass_pool.specs.Streamed.{area, FillsOf, HasStreamedAll}
 use Rattle.vt_pass_pool.specs.declared.pool.PassPool.{PassPool}
 use Rattle.vt_pass_pool.specs.Placing.{line_of, bytes_of}
 use Rattle.vt_pass_pool.specs.Stills.{IsStill}
 use Rattle.vt_pass_pool.specs.Ended.{WasDrawn, IsHeldRow, HasEnded}
-use Rattle.vt_pass_tasks.specs.declared.shared.PassStreamer.{PassStreamer}
+use Rattle.vt_pass_pool.specs.PassTasksTypes.shared.PassStreamer.{PassStreamer}
 use Rattle.vt_pass_machine.specs.Machines.{state_by, drawing_by_turns, drawn_by, held_from, IsSound, Agree, IsIdle, IsIdleBy, Begun, MayFinish, journal_by, frames_by}
 use Rattle.vt_pass_machine.proofs.Listed.{made_of, bytes_at}
 use Rattle.vt_pass_machine.proofs.Fills.{results_stored}

@@ -2,36 +2,36 @@
 use Rattle.std.proofs.Common.{◌≡◌, ℕ, ◌*◌, ◌<◌, ◌≤◌, List, length, get_or, Option, Some, None, sym, ap, ◌∙◌, subst, arith}
 use Rattle.std.specs.Prelude.{IsSome}
 use Rattle.std.proofs.lemmas.Option.{slice_get-get_or}
-use Rattle.vt_definitions.specs.Depths.{IsDepth}
+use Rattle.vt_pass_pool.specs.Depths.{IsDepth}
 use Rattle.vt_outside.specs.declared.outside.File.{Ghosts as FileMeanings}
-use Rattle.vt_pages.specs.Shape.{Shape}
-use Rattle.vt_pages.specs.Pages.{pages_of, root_of, IsWithinLimits}
-use Rattle.vt_pictures.specs.JournalTypes.changes.Change.TheVariants.{Map}
-use Rattle.vt_pictures.specs.Changes.{newest, IsNext}
-use Rattle.vt_pictures.specs.Paths.{ArePictureSides}
-use Rattle.vt_sampler.specs.Samplers.{row_length}
-use Rattle.vt_queue.specs.Queues.{IsPassOfQueue}
+use Rattle.vt_load.specs.Shape.{Shape}
+use Rattle.vt_pass_pool.specs.Pages.{pages_of, root_of, IsWithinLimits}
+use Rattle.vt_pass_pool.specs.JournalTypes.changes.Change.TheVariants.{Map}
+use Rattle.vt_pass_pool.specs.Changes.{newest, IsNext}
+use Rattle.vt_pass_pool.specs.Paths.{ArePictureSides}
+use Rattle.vt_pass_pool.specs.Samplers.{row_length}
+use Rattle.vt_load.specs.Queues.{IsPassOfQueue}
 use Rattle.vt_load.specs.declared.queued.Queues.{Queues}
-use Rattle.vt_machine.specs.PlanTypes.batches.Planned.{Planned}
-use Rattle.vt_machine.specs.Jobs.{Job}
-use Rattle.vt_machine.specs.All.{AllReady}
-use Rattle.vt_machine.specs.declared.crew.Crew.{Crew}
-use Rattle.vt_machine.specs.Machines.{known_bytes}
-use Rattle.vt_machine.specs.Crews.{last_start}
-use Rattle.vt_machine.specs.Format.{tile_length}
-use Rattle.vt_machine.specs.Outcomes.{IsBatchFor}
-use Rattle.vt_machine.specs.Passes.{MayPlace, MayPrepare, IsJobFor, IsUntouched, IsSpent}
+use Rattle.vt_loading.specs.PlanTypes.batches.Planned.{Planned}
+use Rattle.vt_loading.specs.Jobs.{Job}
+use Rattle.vt_loading.specs.All.{AllReady}
+use Rattle.vt_loading.specs.MachineTypes.crew.Crew.{Crew}
+use Rattle.vt_loading.specs.Machines.{known_bytes}
+use Rattle.vt_loading.specs.Crews.{last_start}
+use Rattle.vt_load.specs.Format.{tile_length}
+use Rattle.vt_loading.specs.Outcomes.{IsBatchFor}
+use Rattle.vt_loading.specs.Passes.{MayPlace, MayPrepare, IsJobFor, IsUntouched, IsSpent}
 use Rattle.vt_loading.specs.LoaderPools.{LoaderPoolView, IsLoaderPool, IsSameStream}
 use Rattle.vt_loading.proofs.StoreRooms.{known_same, files_same}
-use Rattle.vt_page_table.specs.declared.table.PageTable.{Ghosts as TableMeanings}
-use Rattle.vt_page_table.specs.Fills.{FillsOne}
-use Rattle.vt_schedules.specs.declared.schedule.Schedule.{Ghosts as ScheduleMeanings}
-use Rattle.vt_pass_rows.specs.declared.sampler.PassSampler.{PassSampler}
-use Rattle.vt_pass_rows.specs.PassSamplers.{MayDraw}
+use Rattle.vt_pass_pool.specs.PageTableTypes.table.PageTable.{Ghosts as TableMeanings}
+use Rattle.vt_pass_pool.specs.Fills.{FillsOne}
+use Rattle.vt_pass_pool.specs.SchedulesTypes.schedule.Schedule.{Ghosts as ScheduleMeanings}
+use Rattle.vt_pass_pool.specs.PassRowsTypes.sampler.PassSampler.{PassSampler}
+use Rattle.vt_pass_pool.specs.PassSamplers.{MayDraw}
 use Rattle.vt_pass_pool.specs.declared.pool.PassPool.{PassPool}
 use Rattle.vt_pass_pool.specs.Pools.{IsIdlePool}
-use Rattle.vt_pass_tasks.specs.declared.shared.PassStreamer.{PassStreamer}
-use Rattle.vt_pass_tasks.specs.PassTasks.{MayStream}
+use Rattle.vt_pass_pool.specs.PassTasksTypes.shared.PassStreamer.{PassStreamer}
+use Rattle.vt_pass_pool.specs.PassTasks.{MayStream}
 use Rattle.vt_pass_machine.specs.declared.machine.Machine.{Machine}
 use Rattle.vt_pass_machine.specs.Machines.{setup_by, state_by, state_of, journal_by, frames_by, IsIdle, IsIdleBy, IsReady, IsReadyBy, HasPlaced}
 use Rattle.vt_pass_machine.proofs.Fills.{placed_stored}

@@ -3,7 +3,7 @@ use Rattle.std.proofs.Common.{◌≡◌, ℕ, zero, suc, List, [], ◌∷◌, ge
 use Rattle.std.specs.Prelude.{slice_get}
 use Rattle.std.proofs.lemmas.List.{get_or-map}
 use Rattle.std.proofs.lemmas.Option.{none-some, same_Some, slice_get_within, get_or_from_slice_get}
-use Rattle.vt_shared_rows.specs.declared.bag.RowJob.{RowJob}
+use Rattle.vt_pass_pool.specs.SchedulesTypes.bag.RowJob.{RowJob}
 use Rattle.vt_pass_pool.specs.Placing.{bytes_of}
 
 pub made_of : {X Y : Type 0} (f : X → Y) (xs : List X) (n : ℕ) (y : Y) → slice_get (map f xs) n ≡ Some y

@@ -3,9 +3,9 @@ use Rattle.std.proofs.Common.{◌≡◌, ℕ, suc, Bool, true, false, List, [], 
 use Rattle.std.specs.List.{filter}
 use Rattle.std.proofs.lemmas.List.Sums.{length-filter}
 use Rattle.vt_outside.specs.Counts.{RoseTogetherBy}
-use Rattle.vt_pages.specs.Shape.{Shape}
-use Rattle.vt_machine.specs.PlanTypes.batches.Planned.{Planned}
-use Rattle.vt_machine.specs.Requests.{FileState, AreReadFor, ArePartlyReadFor, counts_of, lost_entries}
+use Rattle.vt_load.specs.Shape.{Shape}
+use Rattle.vt_loading.specs.PlanTypes.batches.Planned.{Planned}
+use Rattle.vt_loading.specs.Requests.{FileState, AreReadFor, ArePartlyReadFor, counts_of, lost_entries}
 
 kept_lost : (batch : List Planned) (losses : List Bool) → length losses ≡ length batch → length (lost_entries batch losses) ≡ length (filter (λ l. l) losses)
 kept_lost [] [] same = refl

@@ -2,12 +2,12 @@
 use Rattle.std.proofs.Common.{◌≡◌, ℕ, ◌*◌, ◌++◌, inl, inr, ◌⊎◌, List, Result, Ok, Err, refl, ap, ◌∙◌, subst}
 use Rattle.std.specs.Prelude.{OnOk, OnErr}
 use Rattle.vt_outside.specs.declared.answers.NoMemory.{NoMemory}
-use Rattle.vt_pages.specs.Shape.{Shape}
-use Rattle.vt_pictures.specs.JournalTypes.changes.Change.{Change}
-use Rattle.vt_page_table.specs.declared.table.PageTable.{Ghosts as TableMeanings}
-use Rattle.vt_page_table.specs.Fills.{AreTexelWords, FillsOne}
+use Rattle.vt_load.specs.Shape.{Shape}
+use Rattle.vt_pass_pool.specs.JournalTypes.changes.Change.{Change}
+use Rattle.vt_pass_pool.specs.PageTableTypes.table.PageTable.{Ghosts as TableMeanings}
+use Rattle.vt_pass_pool.specs.Fills.{AreTexelWords, FillsOne}
 use Rattle.vt_pass_pool.specs.Stills.{IsStill}
-use Rattle.vt_pass_tasks.specs.declared.shared.PassStreamer.{PassStreamer}
+use Rattle.vt_pass_pool.specs.PassTasksTypes.shared.PassStreamer.{PassStreamer}
 use Rattle.vt_pass_machine.specs.Machines.{HasPlaced}
 
 module _ {T H R W : Type 0} (table : TableMeanings T H R W) (shared : H) (page : ℕ) (tile : List ℕ) (t : PassStreamer T H R W) (w : W)

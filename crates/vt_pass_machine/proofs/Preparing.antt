@@ -1,24 +1,24 @@
 -- A pass is prepared, once its requests were put and its samplers made ready.
 use Rattle.std.proofs.Common.{◌≡◌, ℕ, ◌*◌, List, length, Option, sym, ap, ◌∙◌, subst}
 use Rattle.vt_outside.specs.declared.outside.File.{Ghosts as FileMeanings}
-use Rattle.vt_pages.specs.Shape.{Shape}
-use Rattle.vt_pages.specs.Pages.{IsWithinLimits}
-use Rattle.vt_pictures.specs.JournalTypes.changes.Change.{Change}
-use Rattle.vt_pictures.specs.Changes.{newest}
+use Rattle.vt_load.specs.Shape.{Shape}
+use Rattle.vt_pass_pool.specs.Pages.{IsWithinLimits}
+use Rattle.vt_pass_pool.specs.JournalTypes.changes.Change.{Change}
+use Rattle.vt_pass_pool.specs.Changes.{newest}
 use Rattle.vt_load.specs.declared.queued.Queues.{Queues}
-use Rattle.vt_machine.specs.PlanTypes.batches.Planned.{Planned}
-use Rattle.vt_machine.specs.declared.crew.Crew.{Crew}
-use Rattle.vt_machine.specs.Machines.{known_bytes}
-use Rattle.vt_machine.specs.Outcomes.{IsBatchFor}
+use Rattle.vt_loading.specs.PlanTypes.batches.Planned.{Planned}
+use Rattle.vt_loading.specs.MachineTypes.crew.Crew.{Crew}
+use Rattle.vt_loading.specs.Machines.{known_bytes}
+use Rattle.vt_loading.specs.Outcomes.{IsBatchFor}
 use Rattle.vt_loading.specs.LoaderPools.{LoaderPoolView, IsSameStream, IsAskedStream}
 use Rattle.vt_loading.proofs.StoreRooms.{known_same}
-use Rattle.vt_page_table.specs.declared.table.PageTable.{Ghosts as TableMeanings}
-use Rattle.vt_page_table.specs.Fills.{AreStoredPages}
-use Rattle.vt_schedules.specs.declared.schedule.Schedule.{Ghosts as ScheduleMeanings}
+use Rattle.vt_pass_pool.specs.PageTableTypes.table.PageTable.{Ghosts as TableMeanings}
+use Rattle.vt_pass_pool.specs.Fills.{AreStoredPages}
+use Rattle.vt_pass_pool.specs.SchedulesTypes.schedule.Schedule.{Ghosts as ScheduleMeanings}
 use Rattle.vt_pass_pool.specs.declared.pool.PassPool.{PassPool}
 use Rattle.vt_pass_pool.specs.Pools.{IsIdlePool, IsReadyPool}
 use Rattle.vt_pass_pool.specs.Stills.{IsStill}
-use Rattle.vt_pass_tasks.specs.declared.shared.PassStreamer.{PassStreamer}
+use Rattle.vt_pass_pool.specs.PassTasksTypes.shared.PassStreamer.{PassStreamer}
 use Rattle.vt_pass_machine.specs.Machines.{IsIdle, IsReady}
 
 -- a pool whose readers are at home for a writer stays so

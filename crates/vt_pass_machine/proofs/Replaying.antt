@@ -1,23 +1,23 @@
 -- Rows that were drawn by what a writer knows are the replay of its journal.
 use Rattle.std.proofs.Common.{◌≡◌, ℕ, List, [], get_or, Option, Some, None, refl}
 use Rattle.std.specs.Prelude.{slice_get, IfSome}
-use Rattle.vt_pages.specs.Shape.{Shape}
-use Rattle.vt_pages.specs.Pages.{IsWithinLimits}
-use Rattle.vt_tiles.specs.Format.{stored}
-use Rattle.vt_tiles.specs.Texels.{Source}
-use Rattle.vt_tiles.specs.StoreViews.{IsStore, IsStoreIfKnown}
-use Rattle.vt_pictures.specs.Changes.{Table, at}
-use Rattle.vt_pictures.specs.DrawLookups.{Note}
-use Rattle.vt_pictures.specs.Evidence.{AreShown}
-use Rattle.vt_pictures.specs.FilterLaws.{IsUnder}
-use Rattle.vt_pictures.specs.JournalTypes.changes.RowLine.{RowLine}
-use Rattle.vt_pictures.specs.Replays.{HasPixels, AreReplayed}
-use Rattle.vt_pictures.specs.Rows.{RowView}
-use Rattle.vt_pictures.specs.Scenes.{Scene}
-use Rattle.vt_pictures.specs.Shots.{shot_row}
-use Rattle.vt_pictures.proofs.Handed.{row_is_under}
-use Rattle.vt_page_table.specs.declared.table.PageTable.{Ghosts as TableMeanings}
-use Rattle.vt_page_table.specs.Fills.{AreStoredPages}
+use Rattle.vt_load.specs.Shape.{Shape}
+use Rattle.vt_pass_pool.specs.Pages.{IsWithinLimits}
+use Rattle.vt_load.specs.Format.{stored}
+use Rattle.vt_pass_pool.specs.Texels.{Source}
+use Rattle.vt_load.specs.StoreViews.{IsStore, IsStoreIfKnown}
+use Rattle.vt_pass_pool.specs.Changes.{Table, at}
+use Rattle.vt_pass_pool.specs.DrawLookups.{Note}
+use Rattle.vt_pass_pool.specs.Evidence.{AreShown}
+use Rattle.vt_pass_pool.specs.FilterLaws.{IsUnder}
+use Rattle.vt_pass_pool.specs.JournalTypes.changes.RowLine.{RowLine}
+use Rattle.vt_pass_pool.specs.Replays.{HasPixels, AreReplayed}
+use Rattle.vt_pass_pool.specs.Rows.{RowView}
+use Rattle.vt_pass_pool.specs.Scenes.{Scene}
+use Rattle.vt_pass_pool.specs.Shots.{shot_row}
+use Rattle.vt_pass_pool.proofs.Handed.{row_is_under}
+use Rattle.vt_pass_pool.specs.PageTableTypes.table.PageTable.{Ghosts as TableMeanings}
+use Rattle.vt_pass_pool.specs.Fills.{AreStoredPages}
 use Rattle.vt_pass_machine.specs.Machines.{IsSound}
 
 module _ {T H R W : Type 0} (shown : Shape → ℕ → ℕ → List Note → RowView → ℕ → List ℕ → Type 0)

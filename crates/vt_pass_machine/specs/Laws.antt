@@ -3,29 +3,29 @@ use Rattle.std.specs.Prelude.{◌≡◌, ℕ, Option, List, length, reverse, Res
 use Rattle.std.proofs.Common.{subst, sym, ap, ◌∙◌}
 use Rattle.vt_outside.specs.declared.outside.File.{Ghosts as FileMeanings}
 use Rattle.vt_outside.specs.declared.answers.NoMemory.{NoMemory}
-use Rattle.vt_tiles.specs.StoreViews.{StoreView}
-use Rattle.vt_pictures.specs.declared.filters.Filter.{Ghosts as FilterMeanings}
-use Rattle.vt_sampler.specs.Samplers.{row_length}
+use Rattle.vt_load.specs.StoreViews.{StoreView}
+use Rattle.vt_pass_pool.specs.PicturesTypes.filters.Filter.{Ghosts as FilterMeanings}
+use Rattle.vt_pass_pool.specs.Samplers.{row_length}
 use Rattle.vt_load.specs.declared.queued.Queues.{Queues}
 use Rattle.vt_load.specs.QueuedLoaders.{QueuedView, HasLoaded, stores_of}
-use Rattle.vt_machine.specs.Jobs.{Job}
-use Rattle.vt_machine.specs.All.{AllDid}
-use Rattle.vt_machine.specs.declared.crew.PassReport.{PassReport}
-use Rattle.vt_machine.specs.Drawings.{Drawing, RowRelation}
-use Rattle.vt_machine.specs.Machines.{MachineState, files_of, known_bytes}
-use Rattle.vt_machine.specs.Passes.{IsJobFor, IsUntouched, Ran, Broke, EndsPassRun}
+use Rattle.vt_loading.specs.Jobs.{Job}
+use Rattle.vt_loading.specs.All.{AllDid}
+use Rattle.vt_loading.specs.MachineTypes.crew.PassReport.{PassReport}
+use Rattle.vt_loading.specs.Drawings.{Drawing, RowRelation}
+use Rattle.vt_loading.specs.Machines.{MachineState, files_of, known_bytes}
+use Rattle.vt_loading.specs.Passes.{IsJobFor, IsUntouched, Ran, Broke, EndsPassRun}
 use Rattle.vt_loading.specs.LoaderPools.{LoaderPoolView, AreLoadersOut, stream_before}
 use Rattle.vt_loading.specs.StreamBacks.{round, stream_begun, stream_back}
-use Rattle.vt_page_table.specs.declared.table.PageTable.{Ghosts as TableMeanings}
-use Rattle.vt_schedules.specs.declared.schedule.Schedule.{Ghosts as ScheduleMeanings}
-use Rattle.vt_pass_rows.specs.declared.sampler.PassSampler.{PassSampler}
-use Rattle.vt_pass_rows.specs.PassSamplers.{HasDrawn}
+use Rattle.vt_pass_pool.specs.PageTableTypes.table.PageTable.{Ghosts as TableMeanings}
+use Rattle.vt_pass_pool.specs.SchedulesTypes.schedule.Schedule.{Ghosts as ScheduleMeanings}
+use Rattle.vt_pass_pool.specs.PassRowsTypes.sampler.PassSampler.{PassSampler}
+use Rattle.vt_pass_pool.specs.PassSamplers.{HasDrawn}
 use Rattle.vt_pass_pool.specs.declared.pool.PassPool.{PassPool}
 use Rattle.vt_pass_pool.specs.Pools.{IsReadyPool}
 use Rattle.vt_pass_pool.specs.Ended.{MayEnd}
-use Rattle.vt_pass_tasks.specs.declared.shared.PassShared.{PassShared}
-use Rattle.vt_pass_tasks.specs.declared.shared.PassStreamer.{PassStreamer}
-use Rattle.vt_pass_tasks.specs.PassTasks.{HasStreamed}
+use Rattle.vt_pass_pool.specs.PassTasksTypes.shared.PassShared.{PassShared}
+use Rattle.vt_pass_pool.specs.PassTasksTypes.shared.PassStreamer.{PassStreamer}
+use Rattle.vt_pass_pool.specs.PassTasks.{HasStreamed}
 use Rattle.vt_pass_machine.specs.declared.machine.Machine.{Machine}
 use Rattle.vt_pass_machine.specs.Machines.{setup_by, state_by, state_of, journal_by, frames_by, drawing_by_turns, drawn_by, held_from, held_by, IsFit, IsReady, IsReadyBy, IsIdleBy, IsDetached, Begun, MayFinish, MayFinishOut, PassEnds, Finishes}
 

@@ -2,35 +2,35 @@
 use Rattle.std.specs.Prelude.{◌≡◌, ℕ, ◌*◌, Bool, Option, None, Some, List, [], length, slice_get, slice_index_or, Result, IfOk}
 use Rattle.vt_outside.specs.declared.outside.File.{Ghosts as FileMeanings}
 use Rattle.vt_outside.specs.declared.answers.NoMemory.{NoMemory}
-use Rattle.vt_pages.specs.Shape.{Shape}
-use Rattle.vt_pages.specs.Pages.{IsWithinLimits}
-use Rattle.vt_tiles.specs.Format.{stored}
-use Rattle.vt_tiles.specs.StoreViews.{IsStore}
-use Rattle.vt_pictures.specs.declared.filters.Filter.{Ghosts as FilterMeanings}
-use Rattle.vt_pictures.specs.JournalTypes.changes.Change.{Change}
-use Rattle.vt_pictures.specs.JournalTypes.changes.RowLine.{RowLine}
-use Rattle.vt_pictures.specs.Changes.{newest, at}
-use Rattle.vt_pictures.specs.Evidence.{AreTrue}
+use Rattle.vt_load.specs.Shape.{Shape}
+use Rattle.vt_pass_pool.specs.Pages.{IsWithinLimits}
+use Rattle.vt_load.specs.Format.{stored}
+use Rattle.vt_load.specs.StoreViews.{IsStore}
+use Rattle.vt_pass_pool.specs.PicturesTypes.filters.Filter.{Ghosts as FilterMeanings}
+use Rattle.vt_pass_pool.specs.JournalTypes.changes.Change.{Change}
+use Rattle.vt_pass_pool.specs.JournalTypes.changes.RowLine.{RowLine}
+use Rattle.vt_pass_pool.specs.Changes.{newest, at}
+use Rattle.vt_pass_pool.specs.Evidence.{AreTrue}
 use Rattle.vt_load.specs.declared.queued.Queues.{Queues}
 use Rattle.vt_load.specs.QueuedLoaders.{QueuedView}
-use Rattle.vt_machine.specs.PlanTypes.batches.Planned.{Planned}
-use Rattle.vt_machine.specs.Jobs.{Job}
-use Rattle.vt_machine.specs.declared.crew.PassReport.{PassReport}
-use Rattle.vt_machine.specs.Drawings.{Drawing, drawing_of, RowRelation}
-use Rattle.vt_machine.specs.Machines.{Setup, MachineState, files_of, known_bytes}
-use Rattle.vt_machine.specs.Outcomes.{IsBatchFor}
-use Rattle.vt_machine.specs.Passes.{EndsPassRun}
+use Rattle.vt_loading.specs.PlanTypes.batches.Planned.{Planned}
+use Rattle.vt_loading.specs.Jobs.{Job}
+use Rattle.vt_loading.specs.MachineTypes.crew.PassReport.{PassReport}
+use Rattle.vt_loading.specs.Drawings.{Drawing, drawing_of, RowRelation}
+use Rattle.vt_loading.specs.Machines.{Setup, MachineState, files_of, known_bytes}
+use Rattle.vt_loading.specs.Outcomes.{IsBatchFor}
+use Rattle.vt_loading.specs.Passes.{EndsPassRun}
 use Rattle.vt_loading.specs.LoaderPools.{LoaderPoolView, IsLoaderPool, IsAskedStream, AreLoadersOut, StreamBegun, stream_before, MayEndStream}
-use Rattle.vt_page_table.specs.declared.table.PageTable.{Ghosts as TableMeanings}
-use Rattle.vt_page_table.specs.Fills.{AreStoredPages, FillsOne}
-use Rattle.vt_schedules.specs.declared.schedule.Schedule.{Ghosts as ScheduleMeanings}
+use Rattle.vt_pass_pool.specs.PageTableTypes.table.PageTable.{Ghosts as TableMeanings}
+use Rattle.vt_pass_pool.specs.Fills.{AreStoredPages, FillsOne}
+use Rattle.vt_pass_pool.specs.SchedulesTypes.schedule.Schedule.{Ghosts as ScheduleMeanings}
 use Rattle.vt_pass_pool.specs.declared.pool.PassPool.{PassPool}
-use Rattle.vt_pass_rows.specs.declared.sampler.PassSampler.{PassSampler}
+use Rattle.vt_pass_pool.specs.PassRowsTypes.sampler.PassSampler.{PassSampler}
 use Rattle.vt_pass_pool.specs.Placing.{bytes_of}
 use Rattle.vt_pass_pool.specs.Pools.{IsIdlePool, IsReadyPool}
 use Rattle.vt_pass_pool.specs.Ended.{MayEnd, WasDrawn, IsHeldRow}
-use Rattle.vt_pass_tasks.specs.declared.shared.PassStreamer.{PassStreamer}
-use Rattle.vt_pass_tasks.specs.PassTasks.{HasStreamed}
+use Rattle.vt_pass_pool.specs.PassTasksTypes.shared.PassStreamer.{PassStreamer}
+use Rattle.vt_pass_pool.specs.PassTasks.{HasStreamed}
 use Rattle.vt_pass_machine.specs.declared.machine.Machine.{Machine}
 
 -- how a machine draws by a filter, with rows that are dealt or shared

@@ -5,4 +5,4 @@ mod machine;
 mod passes;
 
 pub use machine::Machine;
-pub use vt_pass_tasks::{PassShared, PassStreamer};
+pub use vt_pass_pool::{Dealt, PassShared, PassStreamer, Shared};

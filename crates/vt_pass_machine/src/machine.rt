@@ -1,7 +1,7 @@
 //! The machine.
 
 ghost use Rattle.std.specs.Prelude.{◌≡◌, OnErr};
-ghost use Rattle.vt_machine.specs.Jobs.{job_of};
+ghost use Rattle.vt_loading.specs.Jobs.{job_of};
 ghost use Rattle.vt_pass_machine.specs.Machines.{state_of, drawing_by_turns, drawn_by, held_by, IsIdleBy, IsReadyBy, IsDetached, Begun, MayFinishOut, Finishes};
 
 use crate::passes::{end_pass, end_streamer, new_parts, place_page, prepare_pass};
@@ -10,19 +10,13 @@ use std::marker::PhantomData;
 use std::mem;
 use std::sync::Wait;
 use std::thread::Threads;
-use vt_load::QueuedLoader;
-use vt_loading::{LoaderPool, blank_report, new_queues};
-use vt_machine::{
-    Batch, Crew, FeedbackCounts as Counts, Journal, PassMachine, PassReport, Path, Shot,
-};
+use vt_load::{QueuedLoader, Stores};
+use vt_loading::{Batch, Crew, LoaderPool, PassMachine, PassReport, blank_report, new_queues};
 use vt_outside::{File, Gate, Items, NoMemory};
-use vt_page_table::PageTable;
-use vt_pages::Geometry;
-use vt_pass_pool::{PassPool, PassSampler};
-use vt_pass_tasks::{PassShared, PassStreamer};
-use vt_pictures::Filter;
-use vt_schedules::Schedule;
-use vt_tiles::Stores;
+use vt_pass_pool::{
+    FeedbackCounts as Counts, Filter, Geometry, Journal, PageTable, PassPool, PassSampler,
+    PassShared, PassStreamer, Path, Schedule, Shot,
+};
 
 /// A machine that draws the rows of a picture by a filter from a page table, as a schedule says which sampler draws which row, and that streams
 /// the batch at the same time.
@@ -43,7 +37,7 @@ where
     S::Shared: Sync,
     S::Own: Send,
 {
-    ghost use Rattle.vt_tiles.specs.Format.{stored};
+    ghost use Rattle.vt_load.specs.Format.{stored};
     ghost use Rattle.vt_pass_machine.specs.Laws.{come_back, has_ended};
 
     type File = F;

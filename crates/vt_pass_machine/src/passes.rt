@@ -1,15 +1,15 @@
 //! What a machine does between and around its passes.
 
 ghost use Rattle.std.specs.Prelude.{◌≡◌, ℕ, ◌+◌, ◌<◌, ◌≤◌, ◌*◌, ◌++◌, ◌∷◌, [], false, List, length, IfOk, IsSome, OnOk, OnErr};
-ghost use Rattle.vt_definitions.specs.Limits.{most_samplers, most_versions};
-ghost use Rattle.vt_definitions.specs.Depths.{IsDepth};
-ghost use Rattle.vt_pages.specs.Pages.{pages_of, root_of, IsWithinLimits};
-ghost use Rattle.vt_pictures.specs.JournalTypes.changes.Change.TheVariants.{Map};
-ghost use Rattle.vt_pictures.specs.Changes.{newest, IsNext};
-ghost use Rattle.vt_machine.specs.Crews.{AreFrames, last_start};
-ghost use Rattle.vt_machine.specs.Jobs.{job_of};
-ghost use Rattle.vt_machine.specs.Outcomes.{IsBatchFor};
-ghost use Rattle.vt_machine.specs.Format.{tile_length};
+ghost use Rattle.vt_load.specs.Limits.{most_samplers, most_versions};
+ghost use Rattle.vt_pass_pool.specs.Depths.{IsDepth};
+ghost use Rattle.vt_pass_pool.specs.Pages.{pages_of, root_of, IsWithinLimits};
+ghost use Rattle.vt_pass_pool.specs.JournalTypes.changes.Change.TheVariants.{Map};
+ghost use Rattle.vt_pass_pool.specs.Changes.{newest, IsNext};
+ghost use Rattle.vt_loading.specs.Crews.{AreFrames, last_start};
+ghost use Rattle.vt_loading.specs.Jobs.{job_of};
+ghost use Rattle.vt_loading.specs.Outcomes.{IsBatchFor};
+ghost use Rattle.vt_load.specs.Format.{tile_length};
 ghost use Rattle.vt_loading.specs.LoaderPools.{IsSameStream, HasEndedStream};
 ghost use Rattle.vt_pass_pool.specs.Pools.{IsIdlePool};
 ghost use Rattle.vt_pass_pool.specs.Stills.{IsStill};
@@ -20,15 +20,12 @@ use std::alloc::Global;
 use std::sync::Wait;
 use std::thread::Threads;
 use vt_load::QueuedLoader;
-use vt_loading::LoaderPool;
-use vt_machine::{Batch, PassReport, Path, Shot};
+use vt_loading::{Batch, LoaderPool, PassReport};
 use vt_outside::{File, Items, NoMemory};
-use vt_page_table::PageTable;
-use vt_pages::Geometry;
-use vt_pass_pool::{PassPool, PassSampler};
-use vt_pass_tasks::{PassShared, PassStreamer};
-use vt_pictures::Filter;
-use vt_schedules::Schedule;
+use vt_pass_pool::{
+    Filter, Geometry, PageTable, PassPool, PassSampler, PassShared, PassStreamer, Path, Schedule,
+    Shot,
+};
 
 /// A page table that maps nothing, with its writer, what is shared of the rows, and what samplers with its readers work with. It may wait.
 pub(crate) fn new_parts<T: PageTable, S: Schedule, R: Wait>(

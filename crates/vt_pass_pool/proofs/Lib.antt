@@ -1,3 +1,4 @@
+pub use Rattle.vt_pass_tasks.proofs.Handed
 mod Listed
 pub mod Stills
 mod MadeSamplers

@@ -2,14 +2,14 @@
 use Rattle.std.specs.Prelude.{◌≡◌, ℕ, ◌≤◌, Some, List, [], length, map, slice_get}
 use Rattle.vt_definitions.specs.Limits.{most_samplers}
 use Rattle.vt_definitions.specs.Depths.{IsDepth}
-use Rattle.vt_pages.specs.Shape.{Shape}
-use Rattle.vt_pages.specs.Pages.{pages_of}
-use Rattle.vt_pictures.specs.Paths.{ArePictureSides}
-use Rattle.vt_sampler.specs.Samplers.{row_length}
-use Rattle.vt_page_table.specs.declared.table.PageTable.{Ghosts as TableMeanings}
-use Rattle.vt_schedules.specs.declared.schedule.Schedule.{Ghosts as ScheduleMeanings}
-use Rattle.vt_schedules.specs.Rows.{AreRowsInPlace}
-use Rattle.vt_pass_rows.specs.declared.sampler.PassSampler.{PassSampler}
+use Rattle.vt_journal.specs.Shape.{Shape}
+use Rattle.vt_journal.specs.Pages.{pages_of}
+use Rattle.vt_pass_tasks.specs.Paths.{ArePictureSides}
+use Rattle.vt_pass_tasks.specs.Samplers.{row_length}
+use Rattle.vt_pass_tasks.specs.PageTableTypes.table.PageTable.{Ghosts as TableMeanings}
+use Rattle.vt_pass_tasks.specs.SchedulesTypes.schedule.Schedule.{Ghosts as ScheduleMeanings}
+use Rattle.vt_pass_tasks.specs.SchedulesRows.{AreRowsInPlace}
+use Rattle.vt_pass_tasks.specs.PassRowsTypes.sampler.PassSampler.{PassSampler}
 use Rattle.vt_pass_pool.specs.declared.pool.PassPool.{PassPool}
 
 -- the ways of samplers to rows

@@ -10,5 +10,8 @@ mod pool;
 mod returning;
 
 pub use pool::PassPool;
-pub use vt_pass_rows::PassSampler;
-pub use vt_schedules::RowJob;
+pub use vt_journal::{Geometry, Journal};
+pub use vt_pass_tasks::{
+    Dealt, FeedbackCounts, Filter, PageTable, PassSampler, PassShared, PassStreamer, Path, RowJob,
+    Schedule, Shared, Shot,
+};

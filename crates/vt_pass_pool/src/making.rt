@@ -2,19 +2,16 @@
 
 ghost use Rattle.std.specs.Prelude.{◌≡◌, ℕ, ◌≤◌, List, length, reverse, IfOk};
 ghost use Rattle.vt_definitions.specs.Depths.{IsDepth};
-ghost use Rattle.vt_sampler.specs.Samplers.{row_length};
-ghost use Rattle.vt_page_table.specs.Readers.{AreHome};
-ghost use Rattle.vt_schedules.specs.Rows.{AreRowsInPlace};
+ghost use Rattle.vt_pass_tasks.specs.Samplers.{row_length};
+ghost use Rattle.vt_pass_tasks.specs.Readers.{AreHome};
+ghost use Rattle.vt_pass_tasks.specs.SchedulesRows.{AreRowsInPlace};
 ghost use Rattle.vt_pass_pool.specs.Pools.{IsSampler, AreSamplers, AreAtHome};
 
 use std::alloc::Global;
 use vt_definitions::texel_length;
-use vt_machine::Path;
+use vt_journal::Geometry;
 use vt_outside::{Items, NoMemory};
-use vt_page_table::PageTable;
-use vt_pages::Geometry;
-use vt_pass_rows::PassSampler;
-use vt_schedules::{RowJob, Schedule};
+use vt_pass_tasks::{PageTable, PassSampler, Path, RowJob, Schedule};
 
 // A list in the other order.
 fn turned<I: Drop>(alloc: Global, list: Items<I>) -> Result<Items<I>, NoMemory>

@@ -1,16 +1,14 @@
 //! Samplers are made ready for a pass: their readers are opened, and the ways to its rows are dealt to them.
 
 ghost use Rattle.std.specs.Prelude.{◌≡◌, ℕ, ◌<◌, ◌≤◌, ◌^◌, List, [], ◌∷◌, ◌++◌, length, IsSome, OnOk};
-ghost use Rattle.vt_pages.specs.Pages.{root_of};
-ghost use Rattle.vt_pictures.specs.Changes.{newest};
+ghost use Rattle.vt_journal.specs.Pages.{root_of};
+ghost use Rattle.vt_journal.specs.Changes.{newest};
 ghost use Rattle.vt_pass_pool.specs.Pools.{IsReadySampler, IsSameSampler, AreReady, AreSameSamplers, AreSamplers, AreAtHome, ways_of};
 ghost use Rattle.vt_pass_pool.specs.Stills.{IsStill};
 
 use std::alloc::Global;
 use vt_outside::NoMemory;
-use vt_page_table::PageTable;
-use vt_pass_rows::PassSampler;
-use vt_schedules::Schedule;
+use vt_pass_tasks::{PageTable, PassSampler, Schedule};
 
 // Makes one sampler ready.
 fn open_sampler<T: PageTable, S: Schedule>(

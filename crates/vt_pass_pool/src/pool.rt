@@ -4,12 +4,12 @@ ghost use Rattle.std.specs.Prelude.{◌≡◌, ℕ, ◌≤◌, ◌++◌, List, [
 ghost use Rattle.std.specs.List.{concat};
 ghost use Rattle.vt_definitions.specs.Limits.{most_samplers};
 ghost use Rattle.vt_definitions.specs.Depths.{IsDepth};
-ghost use Rattle.vt_pages.specs.Pages.{root_of};
-ghost use Rattle.vt_pictures.specs.Changes.{newest};
-ghost use Rattle.vt_pictures.specs.Paths.{ArePictureSides};
-ghost use Rattle.vt_pictures.specs.Scenes.{scene_of};
-ghost use Rattle.vt_page_table.specs.Readers.{AreHome};
-ghost use Rattle.vt_pass_rows.specs.declared.sampler.PassSampler.{PassSampler as Sampler};
+ghost use Rattle.vt_journal.specs.Pages.{root_of};
+ghost use Rattle.vt_journal.specs.Changes.{newest};
+ghost use Rattle.vt_pass_tasks.specs.Paths.{ArePictureSides};
+ghost use Rattle.vt_pass_tasks.specs.Scenes.{scene_of};
+ghost use Rattle.vt_pass_tasks.specs.Readers.{AreHome};
+ghost use Rattle.vt_pass_tasks.specs.PassRowsTypes.sampler.PassSampler.{PassSampler as Sampler};
 ghost use Rattle.vt_pass_pool.specs.Placing.{bytes_of};
 ghost use Rattle.vt_pass_pool.specs.Pools.{IsIdlePool, IsReadyPool};
 ghost use Rattle.vt_pass_pool.specs.Stills.{IsStill};
@@ -22,13 +22,11 @@ use std::alloc::Global;
 use std::mem;
 use std::sync::Wait;
 use vt_definitions::texel_length;
-use vt_machine::{FeedbackCounts as Counts, Path, RowLines};
+use vt_journal::{Geometry, RowLines};
 use vt_outside::{Items, NoMemory};
-use vt_page_table::PageTable;
-use vt_pages::Geometry;
-use vt_pass_rows::PassSampler;
-use vt_pictures::{Filter, Shot};
-use vt_schedules::{RowJob, Schedule};
+use vt_pass_tasks::{
+    FeedbackCounts as Counts, Filter, PageTable, PassSampler, Path, RowJob, Schedule, Shot,
+};
 
 /// What the samplers of a machine work with: the samplers, the rows of the last picture, and room for what a pass tells of them.
 #[derive(Drop)]

@@ -1,19 +1,29 @@
 -- One row more that a sampler keeps.
-use Rattle.std.proofs.Common.{◌≡◌, ℕ, ◌≤◌, List, [], ◌∷◌, ◌++◌, get_or, subst}
+use Rattle.std.proofs.Common.{◌≡◌, ℕ, ◌*◌, ◌≤◌, List, [], ◌∷◌, ◌++◌, length, get_or, subst}
 use Rattle.std.specs.Prelude.{All}
 use Rattle.std.proofs.lemmas.List.Elements.{All-weaker, All-push}
 use Rattle.std.proofs.lemmas.List.Quantifiers.{all_pairs_push}
-use Rattle.vt_pages.specs.Shape.{Shape}
-use Rattle.vt_pictures.specs.Paths.{PathView}
-use Rattle.vt_pictures.specs.DrawLookups.{Note}
-use Rattle.vt_pictures.specs.Shots.{shot_row}
-use Rattle.vt_pictures.specs.declared.filters.Filter.{Ghosts as FilterMeanings}
-use Rattle.vt_pictures.specs.Evidence.{AreShown}
-use Rattle.vt_pictures.proofs.Handed.{shown_by_more}
+use Rattle.std.proofs.lemmas.List.Sums.{sum_by-le}
+use Rattle.vt_page_table.specs.Shape.{Shape}
+use Rattle.vt_page_table.specs.Paths.{PathView}
+use Rattle.vt_page_table.specs.Rows.{RowView}
+use Rattle.vt_page_table.specs.DrawLookups.{Note}
+use Rattle.vt_page_table.specs.Shots.{shot_row, wants_in_rows}
+use Rattle.vt_page_table.specs.PicturesTypes.filters.Filter.{Ghosts as FilterMeanings}
+use Rattle.vt_page_table.specs.Evidence.{AreShown}
+use Rattle.vt_page_table.proofs.Handed.{shown_by_more}
 use Rattle.vt_page_table.specs.declared.table.PageTable.{Ghosts as TableMeanings}
-use Rattle.vt_shared_rows.specs.declared.bag.RowJob.{RowJob}
-use Rattle.vt_shared_rows.specs.SharedRows.{FitsRow, VersionsRise}
+use Rattle.vt_schedules.specs.declared.bag.RowJob.{RowJob}
+use Rattle.vt_schedules.specs.SharedRows.{FitsRow, VersionsRise}
 use Rattle.vt_pass_rows.specs.DrawnRows.{IsDrawnRow}
+
+-- what rows want of a page is bounded by how many they are
+pub wants_most : (wants : Shape → RowView → ℕ → ℕ → ℕ) (s : Shape) (path : PathView) (picture p most : ℕ)
+    → ((y : ℕ) → wants s (shot_row s path picture y) path.width p ≤ most) → (rows : List ℕ)
+    → wants_in_rows wants s path picture rows p ≤ length rows * most
+unfolding wants_in_rows
+wants_most wants s path picture p most few rows =
+    sum_by-le (λ (y : ℕ). wants s (shot_row s path picture y) path.width p) most rows (λ k d inside. few (get_or rows k d))
 
 module _ {T H R W P : Type 0} (table : TableMeanings T H R W) (filter : FilterMeanings P) (s : Shape) (d : ℕ) (path : PathView)
     (picture height line number : ℕ) (first q r : R) (versions : List ℕ)

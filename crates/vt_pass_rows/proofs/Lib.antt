@@ -1,1 +1,4 @@
+pub use Rattle.vt_page_table.proofs.Handed
+pub use Rattle.vt_page_table.proofs.Lent
+pub use Rattle.vt_schedules.proofs.Sharing
 mod Keeping

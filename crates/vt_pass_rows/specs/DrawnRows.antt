@@ -1,13 +1,13 @@
 -- Rows that a sampler has drawn.
 use Rattle.std.specs.Prelude.{◌≡◌, ℕ, ◌≤◌}
-use Rattle.vt_pages.specs.Shape.{Shape}
-use Rattle.vt_pictures.specs.Paths.{PathView}
-use Rattle.vt_pictures.specs.Shots.{shot_row}
-use Rattle.vt_pictures.specs.declared.filters.Filter.{Ghosts as FilterMeanings}
-use Rattle.vt_pictures.specs.Evidence.{AreShown}
+use Rattle.vt_page_table.specs.Shape.{Shape}
+use Rattle.vt_page_table.specs.Paths.{PathView}
+use Rattle.vt_page_table.specs.Shots.{shot_row}
+use Rattle.vt_page_table.specs.PicturesTypes.filters.Filter.{Ghosts as FilterMeanings}
+use Rattle.vt_page_table.specs.Evidence.{AreShown}
 use Rattle.vt_page_table.specs.declared.table.PageTable.{Ghosts as TableMeanings}
-use Rattle.vt_shared_rows.specs.declared.bag.RowJob.{RowJob}
-use Rattle.vt_shared_rows.specs.SharedRows.{FitsRow}
+use Rattle.vt_schedules.specs.declared.bag.RowJob.{RowJob}
+use Rattle.vt_schedules.specs.SharedRows.{FitsRow}
 
 -- a row was drawn by a filter for a sampler of this number, by what its reader says, at a version at which the reader drew between two views, which
 -- is not before the start of the pass

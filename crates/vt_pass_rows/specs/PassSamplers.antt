@@ -1,14 +1,14 @@
 -- What a sampler of a pass asks and leaves.
 use Rattle.std.specs.Prelude.{◌≡◌, ℕ, ◌<◌, ◌≤◌, [], length, reverse, slice_index, All}
 use Rattle.vt_definitions.specs.Depths.{IsDepth}
-use Rattle.vt_pages.specs.Shape.{Shape}
-use Rattle.vt_pages.specs.Pages.{pages_of}
-use Rattle.vt_pictures.specs.Paths.{PathView}
-use Rattle.vt_pictures.specs.Shots.{wants_in_rows}
-use Rattle.vt_pictures.specs.declared.filters.Filter.{Ghosts as FilterMeanings}
+use Rattle.vt_page_table.specs.Shape.{Shape}
+use Rattle.vt_page_table.specs.Pages.{pages_of}
+use Rattle.vt_page_table.specs.Paths.{PathView}
+use Rattle.vt_page_table.specs.Shots.{wants_in_rows}
+use Rattle.vt_page_table.specs.PicturesTypes.filters.Filter.{Ghosts as FilterMeanings}
 use Rattle.vt_page_table.specs.declared.table.PageTable.{Ghosts as TableMeanings}
-use Rattle.vt_sampler.specs.Samplers.{row_length}
-use Rattle.vt_shared_rows.specs.SharedRows.{VersionsRise, rows_of, versions_of}
+use Rattle.vt_schedules.specs.Samplers.{row_length}
+use Rattle.vt_schedules.specs.SharedRows.{VersionsRise, rows_of, versions_of}
 use Rattle.vt_schedules.specs.declared.schedule.Schedule.{Ghosts as ScheduleMeanings}
 use Rattle.vt_pass_rows.specs.declared.sampler.PassSampler.{PassSampler}
 use Rattle.vt_pass_rows.specs.DrawnRows.{IsDrawnRow}

@@ -5,3 +5,5 @@ mod rows;
 mod sampler;
 
 pub use sampler::PassSampler;
+pub use vt_page_table::{FeedbackCounts, Filter, Geometry, PageTable, Path, Planned, Shot, Task};
+pub use vt_schedules::{Dealt, RowJob, Schedule, Shared};

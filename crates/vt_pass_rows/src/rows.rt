@@ -2,19 +2,18 @@
 
 ghost use Rattle.std.specs.Prelude.{◌≡◌, ℕ, ◌+◌, ◌*◌, ◌<◌, ◌≤◌, ◌^◌, [], length, reverse, slice_index, All};
 ghost use Rattle.vt_definitions.specs.Depths.{IsDepth};
-ghost use Rattle.vt_pages.specs.Pages.{pages_of};
-ghost use Rattle.vt_pictures.specs.Paths.{ArePictureSides};
-ghost use Rattle.vt_pictures.specs.Shots.{shot_row, wants_in_rows};
-ghost use Rattle.vt_pictures.specs.Evidence.{AreShown, AreRaised};
-ghost use Rattle.vt_sampler.specs.Samplers.{row_length};
-ghost use Rattle.vt_shared_rows.specs.SharedRows.{FitsRow, VersionsRise, rows_of, versions_of};
+ghost use Rattle.vt_page_table.specs.Pages.{pages_of};
+ghost use Rattle.vt_page_table.specs.Paths.{ArePictureSides};
+ghost use Rattle.vt_page_table.specs.Shots.{shot_row, wants_in_rows};
+ghost use Rattle.vt_page_table.specs.Evidence.{AreShown, AreRaised};
+ghost use Rattle.vt_schedules.specs.Samplers.{row_length};
+ghost use Rattle.vt_schedules.specs.SharedRows.{FitsRow, VersionsRise, rows_of, versions_of};
 ghost use Rattle.vt_pass_rows.specs.DrawnRows.{IsDrawnRow};
 
 use std::sync::Wait;
 use vt_definitions::texel_length;
 use vt_outside::{Gate, Items};
-use vt_page_table::PageTable;
-use vt_pictures::{Filter, Shot};
+use vt_page_table::{Filter, PageTable, Shot};
 use vt_schedules::{RowJob, Schedule};
 
 /// How many rows the picture of a shot has, and how many bytes a row.
@@ -37,23 +36,23 @@ fn draw_job<T: PageTable, P: Filter, G: Gate, R: Wait>(
     reader: &mut T::Reader,
     mut job: RowJob,
     shot: &Shot,
-    height: u32,
-    line: usize,
+    _height: u32,
+    _line: usize,
     gate: &G,
     counts: &mut [u32],
 ) -> RowJob
     requires may { T.may_draw table.now shot.now.geometry.now number reader.old }
-    requires height { height ≡ shot.now.path.now.height }
-    requires line { line ≡ row_length shot.now.depth shot.now.path.now.width }
+    requires height { _height ≡ shot.now.path.now.height }
+    requires line { _line ≡ row_length shot.now.depth shot.now.path.now.width }
     requires depth { IsDepth shot.now.depth }
     requires picture { shot.now.picture < length shot.now.path.now.cameras }
-    requires job { FitsRow height line job }
+    requires job { FitsRow _height _line job }
     requires pages { length counts.old ≡ pages_of shot.now.geometry.now }
     requires room { (p : ℕ) → p < length counts.old → slice_index counts.old p + 4 * shot.now.path.now.width < 2 ^ 32 }
     ensures may { T.may_draw table.now shot.now.geometry.now number reader.new }
     ensures drew { T.drew_row reader.old reader.new result.version }
     ensures row { result.row ≡ job.row }
-    ensures fits { FitsRow height line result }
+    ensures fits { FitsRow _height _line result }
     ensures by { result.sampler ≡ number }
     ensures drawn { let row = shot_row shot.now.geometry.now shot.now.path.now shot.now.picture result.row in
         AreShown P.shown shot.now.geometry.now shot.now.depth result.version (T.says reader.new) row
@@ -62,8 +61,6 @@ fn draw_job<T: PageTable, P: Filter, G: Gate, R: Wait>(
         AreRaised P.wants shot.now.geometry.now row shot.now.path.now.width counts.old counts.new }
 {
     let row = job.row;
-    let _ = height;
-    let _ = line;
     let version = T::draw_row::<P, G, R>(
         rt,
         table,

@@ -1,14 +1,13 @@
 //! A sampler: a reader of the page table and a way to rows, with the rows that it has drawn.
 
 ghost use Rattle.std.specs.Prelude.{◌≡◌, ℕ, ◌<◌, length, slice_index};
-ghost use Rattle.vt_sampler.specs.Samplers.{row_length};
+ghost use Rattle.vt_schedules.specs.Samplers.{row_length};
 ghost use Rattle.vt_pass_rows.specs.PassSamplers.{MayDraw, HasDrawn};
 
 use crate::rows::{draw_rows, size_of};
 use std::sync::Wait;
 use vt_outside::{Gate, Items};
-use vt_page_table::PageTable;
-use vt_pictures::{Filter, Shot};
+use vt_page_table::{Filter, PageTable, Shot};
 use vt_schedules::{RowJob, Schedule};
 
 /// A sampler of a pass.

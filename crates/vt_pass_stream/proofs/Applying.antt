@@ -2,12 +2,12 @@
 use Rattle.std.proofs.Common.{◌≡◌, ℕ, ◌+◌, ◌≤◌, inl, inr, ◌⊎◌, Bool, true, false, Option, Some, List, [], ◌∷◌, ◌++◌, refl, sym, ap, ◌∙◌, arith}
 use Rattle.std.specs.Prelude.{slice_get}
 use Rattle.std.proofs.lemmas.List.{append-nil}
-use Rattle.vt_machine.specs.JournalText.{changes_of}
-use Rattle.vt_machine.specs.PlanTypes.batches.Planned.{Planned}
-use Rattle.vt_machine.specs.Outcomes.{group_of, group_if}
+use Rattle.vt_journal.specs.JournalText.{changes_of}
+use Rattle.vt_page_table.specs.PlanTypes.batches.Planned.{Planned}
+use Rattle.vt_page_table.specs.Outcomes.{group_of, group_if}
 use Rattle.vt_queue.specs.declared.items.Loaded.{Loaded}
-use Rattle.vt_requests.specs.Readings.{is_lost}
-use Rattle.vt_requests.specs.BatchRounds.{page_if}
+use Rattle.vt_streaming.specs.Readings.{is_lost}
+use Rattle.vt_streaming.specs.BatchRounds.{page_if}
 use Rattle.vt_page_table.specs.declared.table.PageTable.{Ghosts as TableMeanings}
 use Rattle.vt_page_table.specs.Fills.{AreTexelWords}
 use Rattle.vt_pass_stream.specs.Streamed.{area, IsFillOf, IsBroughtAs, IsAppliedAs, HasApplied}

@@ -6,20 +6,20 @@ use Rattle.std.proofs.lemmas.List.Elements.{All-push, Contains-append_left, Cont
 use Rattle.std.proofs.lemmas.Bool.{cases_lt, false≢true}
 use Rattle.std.proofs.lemmas.Grind.{flat_map-append}
 use Rattle.std.proofs.lemmas.Option.{get_or_from_slice_get, slice_get_within, slice_get-get_or}
-use Rattle.vt_machine.specs.Shape.{Shape}
-use Rattle.vt_machine.specs.JournalTypes.changes.Change.{Change}
-use Rattle.vt_machine.specs.JournalTypes.changes.Event.{Event}
-use Rattle.vt_machine.specs.Changes.{newest}
-use Rattle.vt_machine.specs.JournalText.{changes_of}
-use Rattle.vt_machine.proofs.EventLines.{changes_of-append}
-use Rattle.vt_machine.specs.PlanTypes.batches.Planned.{Planned}
-use Rattle.vt_machine.specs.Outcomes.{IsEntryFor, IsBatchFor, group_if}
-use Rattle.vt_machine.proofs.Streaming.{entry_stays}
+use Rattle.vt_journal.specs.Shape.{Shape}
+use Rattle.vt_journal.specs.declared.changes.Change.{Change}
+use Rattle.vt_journal.specs.declared.changes.Event.{Event}
+use Rattle.vt_journal.specs.Changes.{newest}
+use Rattle.vt_journal.specs.JournalText.{changes_of}
+use Rattle.vt_journal.proofs.EventLines.{changes_of-append}
+use Rattle.vt_page_table.specs.PlanTypes.batches.Planned.{Planned}
+use Rattle.vt_page_table.specs.Outcomes.{IsEntryFor, IsBatchFor, group_if}
+use Rattle.vt_page_table.proofs.Streaming.{entry_stays}
 use Rattle.vt_queue.specs.declared.items.Loaded.{Loaded}
-use Rattle.vt_requests.specs.Readings.{is_lost}
-use Rattle.vt_requests.specs.BatchRounds.{result_group, result_events, AreLossesOf}
-use Rattle.vt_requests.specs.declared.report.StreamReport.{StreamReport}
-use Rattle.vt_requests.specs.BlankReports.{IsBlank}
+use Rattle.vt_streaming.specs.Readings.{is_lost}
+use Rattle.vt_streaming.specs.BatchRounds.{result_group, result_events, AreLossesOf}
+use Rattle.vt_streaming.specs.RequestsTypes.report.StreamReport.{StreamReport}
+use Rattle.vt_streaming.specs.BlankReports.{IsBlank}
 use Rattle.vt_page_table.specs.declared.table.PageTable.{Ghosts as TableMeanings}
 use Rattle.vt_pass_stream.specs.Streamed.{area, IsFillOf, FillsOf, HasApplied, HasStreamedAll, HasNotedResult, IsUnderWay}
 use Rattle.vt_pass_stream.proofs.Taking.{flag_was, flag_set}

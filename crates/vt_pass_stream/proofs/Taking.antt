@@ -10,8 +10,8 @@ use Rattle.vt_queue.specs.declared.items.Loaded.{Loaded}
 use Rattle.vt_queue.specs.declared.views.PassView.{PassView}
 use Rattle.vt_queue.specs.PassViews.{pass_view}
 use Rattle.vt_queue.specs.Steps.{Takes}
-use Rattle.vt_requests.specs.Streamed.{with_taken}
-use Rattle.vt_requests.specs.TakenResults.{Streams}
+use Rattle.vt_streaming.specs.Streamed.{with_taken}
+use Rattle.vt_streaming.specs.TakenResults.{Streams}
 use Rattle.vt_pass_stream.specs.Streamed.{is_kept}
 
 -- a flag that is set

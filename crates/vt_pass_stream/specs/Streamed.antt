@@ -1,16 +1,16 @@
 -- What streaming a batch into a page table leaves.
 use Rattle.std.specs.Prelude.{◌≡◌, ℕ, ◌+◌, ◌*◌, ◌≤◌, ◌⊎◌, ◌&&◌, Bool, true, false, Some, List, [], ◌∷◌, ◌++◌, length, slice_get, slice_set, slice_index_or, nat_eq, Contains}
-use Rattle.vt_machine.specs.Shape.{Shape}
-use Rattle.vt_machine.specs.Changes.{newest}
-use Rattle.vt_machine.specs.JournalTypes.changes.Event.{Event}
-use Rattle.vt_machine.specs.JournalText.{changes_of}
-use Rattle.vt_machine.specs.PlanTypes.batches.Planned.{Planned}
-use Rattle.vt_machine.specs.Outcomes.{IsEntryFor, group_of}
+use Rattle.vt_journal.specs.Shape.{Shape}
+use Rattle.vt_journal.specs.Changes.{newest}
+use Rattle.vt_journal.specs.declared.changes.Event.{Event}
+use Rattle.vt_journal.specs.JournalText.{changes_of}
+use Rattle.vt_page_table.specs.PlanTypes.batches.Planned.{Planned}
+use Rattle.vt_page_table.specs.Outcomes.{IsEntryFor, group_of}
 use Rattle.vt_queue.specs.declared.items.Loaded.{Loaded}
-use Rattle.vt_requests.specs.Readings.{is_lost}
-use Rattle.vt_requests.specs.BatchRounds.{result_group, result_events, page_if}
-use Rattle.vt_requests.specs.TakenResults.{is_new}
-use Rattle.vt_requests.specs.declared.report.StreamReport.{StreamReport}
+use Rattle.vt_streaming.specs.Readings.{is_lost}
+use Rattle.vt_streaming.specs.BatchRounds.{result_group, result_events, page_if}
+use Rattle.vt_streaming.specs.TakenResults.{is_new}
+use Rattle.vt_streaming.specs.RequestsTypes.report.StreamReport.{StreamReport}
 use Rattle.vt_page_table.specs.declared.table.PageTable.{Ghosts as TableMeanings}
 use Rattle.vt_page_table.specs.Fills.{AreTexelWords, FillsOne}
 

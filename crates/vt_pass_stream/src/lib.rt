@@ -5,3 +5,4 @@ mod results;
 mod stream;
 
 pub use stream::stream_into;
+pub use vt_streaming::StreamReport;

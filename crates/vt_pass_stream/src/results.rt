@@ -2,22 +2,21 @@
 
 ghost use Rattle.std.specs.Prelude.{◌≡◌, ℕ, ◌+◌, ◌*◌, ◌<◌, ◌≤◌, false, true, Some, ◌++◌, length, slice_get};
 ghost use Rattle.vt_definitions.specs.Depths.{IsDepth};
-ghost use Rattle.vt_requests.specs.Readings.{is_lost};
-ghost use Rattle.vt_machine.specs.Changes.{newest};
-ghost use Rattle.vt_machine.specs.Format.{tile_length};
-ghost use Rattle.vt_machine.specs.PlanTypes.batches.Planned.{Planned as Entry};
-ghost use Rattle.vt_machine.specs.Outcomes.{IsEntryFor, group_of, victim_events};
-ghost use Rattle.vt_requests.specs.BatchRounds.{result_group};
-ghost use Rattle.vt_requests.specs.TakenResults.{is_new};
+ghost use Rattle.vt_streaming.specs.Readings.{is_lost};
+ghost use Rattle.vt_journal.specs.Changes.{newest};
+ghost use Rattle.vt_page_table.specs.Format.{tile_length};
+ghost use Rattle.vt_page_table.specs.PlanTypes.batches.Planned.{Planned as Entry};
+ghost use Rattle.vt_page_table.specs.Outcomes.{IsEntryFor, group_of, victim_events};
+ghost use Rattle.vt_streaming.specs.BatchRounds.{result_group};
+ghost use Rattle.vt_streaming.specs.TakenResults.{is_new};
 ghost use Rattle.vt_pass_stream.specs.Streamed.{IsBroughtAs, IsAppliedAs, HasApplied, HasNotedResult, is_kept};
 
 use std::sync::Wait;
 use vt_journal::{Change, Event, Events};
-use vt_machine::{Losses, Planned};
 use vt_outside::Gate;
-use vt_page_table::PageTable;
+use vt_page_table::{Losses, PageTable, Planned};
 use vt_queue::{Loaded, Outcome};
-use vt_requests::StreamReport;
+use vt_streaming::StreamReport;
 
 // Whether a result is for an entry, by its ticket, whose result was not taken.
 fn is_new(taken: &Losses, ticket: usize) -> bool

@@ -2,26 +2,24 @@
 
 ghost use Rattle.std.specs.Prelude.{◌≡◌, ℕ, ◌+◌, ◌*◌, ◌<◌, ◌≤◌, ◌^◌, ◌++◌, false, true, length, All};
 ghost use Rattle.vt_definitions.specs.Depths.{IsDepth};
-ghost use Rattle.vt_machine.specs.Changes.{newest};
-ghost use Rattle.vt_machine.specs.Format.{tile_length};
-ghost use Rattle.vt_machine.specs.Outcomes.{IsBatchFor};
+ghost use Rattle.vt_journal.specs.Changes.{newest};
+ghost use Rattle.vt_page_table.specs.Format.{tile_length};
+ghost use Rattle.vt_page_table.specs.Outcomes.{IsBatchFor};
 ghost use Rattle.vt_queue.specs.Queues.{queue_view_of, queue_splits_of, IsPassOfQueue};
-ghost use Rattle.vt_requests.specs.BatchRounds.{result_events, AreLossesOf};
-ghost use Rattle.vt_requests.specs.TakenResults.{Streams};
-ghost use Rattle.vt_requests.specs.BlankReports.{IsBlank};
+ghost use Rattle.vt_streaming.specs.BatchRounds.{result_events, AreLossesOf};
+ghost use Rattle.vt_streaming.specs.TakenResults.{Streams};
+ghost use Rattle.vt_streaming.specs.BlankReports.{IsBlank};
 ghost use Rattle.vt_pass_stream.specs.Streamed.{HasStreamedAll};
 
 use crate::results::{is_kept, stream_result};
 use std::sync::Wait;
 use std::thread::Threads;
 use vt_definitions::texel_length;
-use vt_machine::Planned;
+use vt_journal::Geometry;
 use vt_outside::Gate;
-use vt_page_table::PageTable;
-use vt_pages::Geometry;
+use vt_page_table::{PageTable, Planned};
 use vt_queue::{Loaded, QueuePass, ResultQueue};
-use vt_requests::StreamReport;
-use vt_streaming::take_result;
+use vt_streaming::{StreamReport, take_result};
 
 // How many bytes a tile has.
 fn tile_size(geometry: &Geometry, depth: u32) -> usize

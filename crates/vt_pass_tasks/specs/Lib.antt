@@ -1,1 +1,22 @@
+pub use Rattle.vt_pass_rows.specs.All
+pub use Rattle.vt_pass_rows.specs.DrawLookups
+pub use Rattle.vt_pass_rows.specs.DrawnRows
+pub use Rattle.vt_pass_rows.specs.Evidence
+pub use Rattle.vt_pass_rows.specs.Fills
+pub use Rattle.vt_pass_rows.specs.FilterLaws
+pub use Rattle.vt_pass_rows.specs.PageTableTypes
+pub use Rattle.vt_pass_rows.specs.PassSamplers
+pub use Rattle.vt_pass_rows.specs.Paths
+pub use Rattle.vt_pass_rows.specs.PicturesTypes
+pub use Rattle.vt_pass_rows.specs.Readers
+pub use Rattle.vt_pass_rows.specs.Replays
+pub use Rattle.vt_pass_rows.specs.Rows
+pub use Rattle.vt_pass_rows.specs.Samplers
+pub use Rattle.vt_pass_rows.specs.Scenes
+pub use Rattle.vt_pass_rows.specs.SchedulesRows
+pub use Rattle.vt_pass_rows.specs.SchedulesTypes
+pub use Rattle.vt_pass_rows.specs.SharedRows
+pub use Rattle.vt_pass_rows.specs.Shots
+pub use Rattle.vt_pass_rows.specs.declared as PassRowsTypes
+pub use Rattle.vt_pass_stream.specs.Streamed
 pub mod PassTasks

@@ -1,16 +1,16 @@
 -- What the streamer of a pass asks and leaves.
 use Rattle.std.specs.Prelude.{◌≡◌, ℕ, ◌*◌, ◌^◌, ◌<◌, ◌++◌, true, false, List, length, All}
-use Rattle.vt_definitions.specs.Depths.{IsDepth}
-use Rattle.vt_machine.specs.Changes.{newest}
-use Rattle.vt_machine.specs.Format.{tile_length}
-use Rattle.vt_machine.specs.PlanTypes.batches.Planned.{Planned}
-use Rattle.vt_machine.specs.Outcomes.{IsBatchFor}
-use Rattle.vt_queue.specs.Queues.{queue_view_of, queue_splits_of, IsPassOfQueue}
+use Rattle.vt_pass_rows.specs.Depths.{IsDepth}
+use Rattle.vt_pass_rows.specs.Changes.{newest}
+use Rattle.vt_load.specs.Format.{tile_length}
+use Rattle.vt_pass_rows.specs.PlanTypes.batches.Planned.{Planned}
+use Rattle.vt_pass_rows.specs.Outcomes.{IsBatchFor}
+use Rattle.vt_load.specs.Queues.{queue_view_of, queue_splits_of, IsPassOfQueue}
 use Rattle.vt_load.specs.declared.queued.Queues.{Queues}
-use Rattle.vt_requests.specs.BatchRounds.{result_events, AreLossesOf}
-use Rattle.vt_requests.specs.TakenResults.{Streams}
-use Rattle.vt_requests.specs.BlankReports.{IsBlank}
-use Rattle.vt_page_table.specs.declared.table.PageTable.{Ghosts as TableMeanings}
+use Rattle.vt_pass_stream.specs.BatchRounds.{result_events, AreLossesOf}
+use Rattle.vt_pass_stream.specs.TakenResults.{Streams}
+use Rattle.vt_pass_stream.specs.BlankReports.{IsBlank}
+use Rattle.vt_pass_rows.specs.PageTableTypes.table.PageTable.{Ghosts as TableMeanings}
 use Rattle.vt_pass_stream.specs.Streamed.{HasStreamedAll}
 use Rattle.vt_pass_tasks.specs.declared.shared.PassStreamer.{PassStreamer}
 

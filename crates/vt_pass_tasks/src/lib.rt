@@ -5,3 +5,6 @@ mod shared;
 mod tasks;
 
 pub use shared::{PassShared, PassStreamer};
+pub use vt_pass_rows::{
+    Dealt, FeedbackCounts, Filter, PageTable, PassSampler, Path, RowJob, Schedule, Shared, Shot,
+};

@@ -1,13 +1,9 @@
 //! What the workers of a pass have in common, and its streamer.
 
 use std::marker::PhantomData;
-use vt_load::Queues;
-use vt_page_table::PageTable;
-use vt_pages::Geometry;
-use vt_pictures::Filter;
-use vt_queue::{Loaded, QueuePass};
-use vt_requests::StreamReport;
-use vt_schedules::Schedule;
+use vt_load::{Loaded, QueuePass, Queues};
+use vt_pass_rows::{Filter, Geometry, PageTable, Schedule};
+use vt_pass_stream::StreamReport;
 
 /// What the workers of a pass have in common.
 #[derive(Drop)]

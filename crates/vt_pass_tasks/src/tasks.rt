@@ -1,7 +1,7 @@
 //! What samplers, loaders and streamer of a pass do.
 
 ghost use Rattle.vt_load.specs.QueuedLoaders.{MayLoad, HasLoaded};
-ghost use Rattle.vt_sampler.specs.Samplers.{row_length};
+ghost use Rattle.vt_pass_rows.specs.Samplers.{row_length};
 ghost use Rattle.vt_pass_rows.specs.PassSamplers.{MayDraw, HasDrawn};
 ghost use Rattle.vt_pass_tasks.specs.PassTasks.{MayStream, HasStreamed};
 
@@ -9,13 +9,9 @@ use crate::shared::{PassShared, PassStreamer};
 use std::sync::Wait;
 use std::thread::Threads;
 use vt_load::QueuedLoader;
-use vt_machine::{Planned, Shot, Task};
 use vt_outside::{File, Gate};
-use vt_page_table::PageTable;
-use vt_pass_rows::PassSampler;
+use vt_pass_rows::{Filter, PageTable, PassSampler, Planned, Schedule, Shot, Task};
 use vt_pass_stream::stream_into;
-use vt_pictures::Filter;
-use vt_schedules::Schedule;
 
 impl<T: PageTable, S: Schedule, P: Filter + Sync> Task<PassShared<T, S, P>> for PassSampler<T, S>
 where

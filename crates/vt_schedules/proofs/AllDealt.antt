@@ -13,7 +13,7 @@ use Rattle.std.proofs.lemmas.List.Sorted.{IsPermutation-refl, IsPermutation-tran
 use Rattle.std.proofs.lemmas.Option.{slice_get_within, slice_get-get_or}
 use Rattle.vt_sampler.specs.Samplers.{own_rows}
 use Rattle.vt_sampler.proofs.Sharing.{own_rows-suc, own_rows-none}
-use Rattle.vt_shared_rows.specs.SharedRows.{rows_of}
+use Rattle.vt_schedules.specs.SharedRows.{rows_of}
 use Rattle.vt_schedules.specs.declared.dealt.DealtWay.{DealtWay}
 use Rattle.vt_schedules.specs.Rows.{AreTaken, AreAllRows}
 use Rattle.vt_schedules.specs.Dealt.{TookDealt, EndsDealt, AreDealtWays}

@@ -11,11 +11,11 @@ use Rattle.vt_queue.specs.PassViews.{all_shares}
 use Rattle.vt_queue.specs.Orders.{items_of}
 use Rattle.vt_queue.specs.Steps.{IsAtStep}
 use Rattle.vt_queue.proofs.Gathered.{append_nil}
-use Rattle.vt_shared_rows.specs.declared.bag.RowJob.{RowJob}
-use Rattle.vt_shared_rows.specs.declared.bag.BagPass.{BagPass}
-use Rattle.vt_shared_rows.specs.Bags.{view_of}
-use Rattle.vt_shared_rows.specs.SharedRows.{FitsRow, AreRowsPut, rows_of}
-use Rattle.vt_shared_rows.proofs.Taken.{taken_once, taken_fit, taken_rise}
+use Rattle.vt_schedules.specs.declared.bag.RowJob.{RowJob}
+use Rattle.vt_schedules.specs.declared.bag.BagPass.{BagPass}
+use Rattle.vt_schedules.specs.Bags.{view_of}
+use Rattle.vt_schedules.specs.SharedRows.{FitsRow, AreRowsPut, rows_of}
+use Rattle.vt_schedules.proofs.Taken.{taken_once, taken_fit, taken_rise}
 use Rattle.vt_schedules.specs.declared.shared.BagWay.{BagWay}
 use Rattle.vt_schedules.specs.Rows.{AreTaken, AreAllRows}
 use Rattle.vt_schedules.specs.Sharing.{TookRows, TookWay, AreShared, shares_if, put_if, took_if, bag_shares, joined_if, all_ways_joined}

@@ -9,9 +9,9 @@ use Rattle.std.proofs.lemmas.List.Elements.{All-push}
 use Rattle.std.proofs.lemmas.Option.{same_Some, none-some, slice_get_within, slice_get-get_or, get_or_from_slice_get}
 use Rattle.vt_definitions.specs.Dealing.{sampler_of}
 use Rattle.vt_sampler.specs.Samplers.{own_rows}
-use Rattle.vt_shared_rows.specs.declared.bag.RowJob.{RowJob}
-use Rattle.vt_shared_rows.specs.SharedRows.{FitsRow, rows_of}
-use Rattle.vt_shared_rows.proofs.Taken.{rows_push}
+use Rattle.vt_schedules.specs.declared.bag.RowJob.{RowJob}
+use Rattle.vt_schedules.specs.SharedRows.{FitsRow, rows_of}
+use Rattle.vt_schedules.proofs.Taken.{rows_push}
 use Rattle.vt_schedules.specs.declared.dealt.DealtWay.{DealtWay}
 use Rattle.vt_schedules.specs.Rows.{AreRowsInPlace}
 use Rattle.vt_schedules.specs.Dealt.{TookDealt, AreOwnInPlace, AreDealt}

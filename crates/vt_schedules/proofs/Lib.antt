@@ -1,3 +1,7 @@
+pub use Rattle.vt_sampler.proofs.Sharing
+mod Keeping
+pub mod Taken
+pub mod Keepers
 mod Lists
 mod Taking
 mod AllDealt

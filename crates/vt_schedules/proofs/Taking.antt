@@ -10,11 +10,11 @@ use Rattle.vt_queue.specs.PassViews.{pass_view, all_shares, Splits}
 use Rattle.vt_queue.specs.Orders.{items_of, placed}
 use Rattle.vt_queue.specs.Steps.{IsAtStep, Takes}
 use Rattle.vt_queue.proofs.Gathered.{all_cut, placed_more, placed_items}
-use Rattle.vt_shared_rows.specs.declared.bag.RowJob.{RowJob}
-use Rattle.vt_shared_rows.specs.declared.bag.BagPass.{BagPass}
-use Rattle.vt_shared_rows.specs.Bags.{view_of}
-use Rattle.vt_shared_rows.specs.SharedRows.{FitsRow, AreRowsPut, Took, rows_of}
-use Rattle.vt_shared_rows.proofs.Taken.{rise_more, rows_push}
+use Rattle.vt_schedules.specs.declared.bag.RowJob.{RowJob}
+use Rattle.vt_schedules.specs.declared.bag.BagPass.{BagPass}
+use Rattle.vt_schedules.specs.Bags.{view_of}
+use Rattle.vt_schedules.specs.SharedRows.{FitsRow, AreRowsPut, Took, rows_of}
+use Rattle.vt_schedules.proofs.Taken.{rise_more, rows_push}
 use Rattle.vt_schedules.specs.declared.shared.BagWay.{BagWay}
 use Rattle.vt_schedules.specs.Rows.{AreRowsInPlace}
 use Rattle.vt_schedules.specs.Sharing.{TookRows, EndedRows, AreShared, AreSplit, AreBack, IsNewWay, bag_shares, shares_if, joined_if, all_ways_joined}

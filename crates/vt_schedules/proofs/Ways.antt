@@ -3,9 +3,9 @@ use Rattle.std.proofs.Common.{◌≡◌, ℕ, false, Option, None, Some, List, [
 use Rattle.std.specs.Prelude.{Result, Ok, Err, OnOk, IfSome, IfNone}
 use Rattle.vt_queue.specs.declared.views.PassView.{PassView}
 use Rattle.vt_queue.specs.Steps.{IsAtStep}
-use Rattle.vt_shared_rows.specs.declared.bag.RowJob.{RowJob}
-use Rattle.vt_shared_rows.specs.declared.bag.BagPass.{BagPass}
-use Rattle.vt_shared_rows.specs.Bags.{view_of}
+use Rattle.vt_schedules.specs.declared.bag.RowJob.{RowJob}
+use Rattle.vt_schedules.specs.declared.bag.BagPass.{BagPass}
+use Rattle.vt_schedules.specs.Bags.{view_of}
 use Rattle.vt_schedules.specs.declared.shared.BagWay.{BagWay}
 use Rattle.vt_schedules.specs.Rows.{AreTaken, AreAllRows}
 use Rattle.vt_schedules.specs.Sharing.{TookRows, EndedRows, TookWay, EndedWay, AreBack, joined_if}

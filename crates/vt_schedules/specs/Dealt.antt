@@ -2,8 +2,8 @@
 use Rattle.std.specs.Prelude.{◌≡◌, ℕ, ◌≤◌, ◌⊎◌, Some, List, [], ◌++◌, length, reverse, slice_get}
 use Rattle.vt_definitions.specs.Dealing.{sampler_of}
 use Rattle.vt_sampler.specs.Samplers.{own_rows}
-use Rattle.vt_shared_rows.specs.declared.bag.RowJob.{RowJob}
-use Rattle.vt_shared_rows.specs.SharedRows.{rows_of}
+use Rattle.vt_schedules.specs.declared.bag.RowJob.{RowJob}
+use Rattle.vt_schedules.specs.SharedRows.{rows_of}
 use Rattle.vt_schedules.specs.declared.dealt.DealtWay.{DealtWay}
 
 -- a way has rows, the next one last: these were taken from it, the first one first

@@ -1,8 +1,8 @@
 -- The laws of ways to rows that are dealt.
 use Rattle.std.proofs.Common.{ℕ, List, [], sym}
 use Rattle.std.proofs.lemmas.List.{append-nil}
-use Rattle.vt_shared_rows.specs.declared.bag.RowJob.{RowJob}
-use Rattle.vt_shared_rows.specs.SharedRows.{rows_of}
+use Rattle.vt_schedules.specs.declared.bag.RowJob.{RowJob}
+use Rattle.vt_schedules.specs.SharedRows.{rows_of}
 use Rattle.vt_schedules.specs.declared.dealt.DealtWay.{DealtWay}
 use Rattle.vt_schedules.specs.Dealt.{TookDealt, AreDealt, AreDealtWays}
 

@@ -1,3 +1,7 @@
+pub use Rattle.vt_sampler.specs.LookupNotes as Notes
+pub use Rattle.vt_sampler.specs.Samplers
+pub mod Bags
+pub mod SharedRows
 pub mod Rows
 pub mod Dealt
 pub mod DealtLaws

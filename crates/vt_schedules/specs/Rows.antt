@@ -2,7 +2,7 @@
 use Rattle.std.specs.Prelude.{◌≡◌, ℕ, ◌<◌, Bool, IsTrue, Some, List, length, slice_get, Contains, AllPairs, IsPermutation}
 use Rattle.std.specs.List.{concat, range_with_len}
 use Rattle.vt_definitions.specs.Dealing.{sampler_of}
-use Rattle.vt_shared_rows.specs.declared.bag.RowJob.{RowJob}
+use Rattle.vt_schedules.specs.declared.bag.RowJob.{RowJob}
 
 -- the rows of a picture of so many, each at its place, with as many bytes as a row has
 pub record AreRowsInPlace (height line : ℕ) (jobs : List RowJob) : Type 0 where

@@ -4,11 +4,11 @@ use Rattle.vt_queue.specs.declared.views.PassView.{PassView}
 use Rattle.vt_queue.specs.PassViews.{all_shares, joined}
 use Rattle.vt_queue.specs.Orders.{items_of}
 use Rattle.vt_queue.specs.Steps.{IsAtStep}
-use Rattle.vt_shared_rows.specs.declared.bag.RowJob.{RowJob}
-use Rattle.vt_shared_rows.specs.declared.bag.RowBag.{RowBag}
-use Rattle.vt_shared_rows.specs.declared.bag.BagPass.{BagPass}
-use Rattle.vt_shared_rows.specs.Bags.{view_of, IsPassOfBag}
-use Rattle.vt_shared_rows.specs.SharedRows.{FitsRow, AreRowsPut, Took, Rise, rows_of}
+use Rattle.vt_schedules.specs.declared.bag.RowJob.{RowJob}
+use Rattle.vt_schedules.specs.declared.bag.RowBag.{RowBag}
+use Rattle.vt_schedules.specs.declared.bag.BagPass.{BagPass}
+use Rattle.vt_schedules.specs.Bags.{view_of, IsPassOfBag}
+use Rattle.vt_schedules.specs.SharedRows.{FitsRow, AreRowsPut, Took, Rise, rows_of}
 use Rattle.vt_schedules.specs.declared.shared.BagWay.{BagWay}
 
 -- a sampler has its pass of a bag

@@ -3,11 +3,11 @@ use Rattle.std.proofs.Common.{ℕ, ◌≤◌, inl, inr, Option, None, Some, List
 use Rattle.vt_queue.specs.declared.views.PassView.{PassView}
 use Rattle.vt_queue.specs.PassViews.{pass_view}
 use Rattle.vt_queue.proofs.Gathered.{append_nil}
-use Rattle.vt_shared_rows.specs.declared.bag.RowJob.{RowJob}
-use Rattle.vt_shared_rows.specs.declared.bag.RowBag.{RowBag}
-use Rattle.vt_shared_rows.specs.declared.bag.BagPass.{BagPass}
-use Rattle.vt_shared_rows.specs.Bags.{view_of}
-use Rattle.vt_shared_rows.proofs.Taken.{rise_none}
+use Rattle.vt_schedules.specs.declared.bag.RowJob.{RowJob}
+use Rattle.vt_schedules.specs.declared.bag.RowBag.{RowBag}
+use Rattle.vt_schedules.specs.declared.bag.BagPass.{BagPass}
+use Rattle.vt_schedules.specs.Bags.{view_of}
+use Rattle.vt_schedules.proofs.Taken.{rise_none}
 use Rattle.vt_schedules.specs.declared.shared.BagWay.{BagWay}
 use Rattle.vt_schedules.specs.Sharing.{HasBagPass, TookRows, TookWay, EndedWay, AreSplit, AreBack}
 

@@ -3,10 +3,11 @@
 ghost use Rattle.std.specs.Prelude.{◌≡◌, ◌≢◌, ℕ, ◌<◌, ◌≤◌, ◌^◌, [], ◌∷◌, ◌++◌, length, reverse, All, IfOk, OnOk, slice_index_or};
 ghost use Rattle.vt_definitions.specs.Dealing.{sampler_of};
 ghost use Rattle.vt_sampler.specs.Samplers.{own_rows};
-ghost use Rattle.vt_shared_rows.specs.declared.bag.RowJob.{RowJob as Job};
-ghost use Rattle.vt_shared_rows.specs.SharedRows.{FitsRow, rows_of};
+ghost use Rattle.vt_schedules.specs.declared.bag.RowJob.{RowJob as Job};
+ghost use Rattle.vt_schedules.specs.SharedRows.{FitsRow, rows_of};
 ghost use Rattle.vt_schedules.specs.Dealt.{AreOwnInPlace};
 
+use crate::bag::RowJob;
 use crate::jobs::no_row;
 use crate::schedule::Schedule;
 use std::alloc::Global;
@@ -14,7 +15,6 @@ use std::mem;
 use std::sync::Wait;
 use vt_definitions::sampler_of;
 use vt_outside::{Items, NoMemory};
-use vt_shared_rows::RowJob;
 
 /// Rows are dealt.
 pub struct Dealt;
@@ -100,7 +100,7 @@ fn deal_rows(
 impl Schedule for Dealt {
     ghost use Rattle.std.specs.Prelude.{true, ◌≡◌, ◌<◌, ◌≤◌, ◌⊎◌, ◌^◌, [], ◌++◌, length, reverse, All};
     ghost use Rattle.std.proofs.Common.{inr};
-    ghost use Rattle.vt_shared_rows.specs.SharedRows.{FitsRow, rows_of};
+    ghost use Rattle.vt_schedules.specs.SharedRows.{FitsRow, rows_of};
     ghost use Rattle.vt_schedules.specs.Dealt.{TookDealt, EndsDealt, AreDealt, AreDealtWays};
     ghost use Rattle.vt_schedules.specs.DealtLaws.{took_dealt_none, dealt_ways};
 

@@ -1,8 +1,8 @@
 //! Rows that are taken out of their places.
 
+use crate::bag::RowJob;
 use std::alloc::Global;
 use vt_outside::Items;
-use vt_shared_rows::RowJob;
 
 /// What is in the place of a row that was taken out.
 pub(crate) fn no_row(alloc: Global) -> RowJob {

@@ -1,13 +1,13 @@
 //! Which sampler draws which row.
 
 ghost use Rattle.std.specs.Prelude.{◌≡◌, ℕ, ◌<◌, ◌≤◌, ◌^◌, Bool, List, [], ◌∷◌, ◌++◌, length, IfOk, IfSome, IfNone, OnOk};
-ghost use Rattle.vt_shared_rows.specs.SharedRows.{FitsRow};
+ghost use Rattle.vt_schedules.specs.SharedRows.{FitsRow};
 ghost use Rattle.vt_schedules.specs.Rows.{AreTaken, AreAllRows, AreRowsInPlace};
 
+use crate::bag::RowJob;
 use std::alloc::Global;
 use std::sync::Wait;
 use vt_outside::NoMemory;
-use vt_shared_rows::RowJob;
 
 /// How the samplers of a pass come by the rows of its picture: each takes the next one by a way of its own.
 pub trait Schedule {

@@ -3,19 +3,19 @@
 ghost use Rattle.std.specs.Prelude.{◌≡◌, ℕ, ◌<◌, [], ◌∷◌, ◌++◌, List, length, MatchBool, OnOk, IfSome, IfNone};
 ghost use Rattle.vt_queue.specs.PassViews.{first_view, pass_view, all_shares};
 ghost use Rattle.vt_queue.specs.Orders.{placed};
-ghost use Rattle.vt_shared_rows.specs.Bags.{view_of, IsPassOfBag};
-ghost use Rattle.vt_shared_rows.specs.SharedRows.{FitsRow};
+ghost use Rattle.vt_schedules.specs.Bags.{view_of, IsPassOfBag};
+ghost use Rattle.vt_schedules.specs.SharedRows.{FitsRow};
 ghost use Rattle.vt_queue.specs.declared.views.PassView.{PassView as View};
-ghost use Rattle.vt_shared_rows.specs.declared.bag.RowJob.{RowJob as Job};
+ghost use Rattle.vt_schedules.specs.declared.bag.RowJob.{RowJob as Job};
 ghost use Rattle.vt_schedules.specs.Sharing.{TookRows, EndedRows};
 
+use crate::bag::{BagPass, RowBag, RowJob};
 use crate::jobs::no_row;
 use crate::schedule::Schedule;
 use std::alloc::Global;
 use std::mem;
 use std::sync::Wait;
 use vt_outside::NoMemory;
-use vt_shared_rows::{BagPass, RowBag, RowJob};
 
 /// Rows are shared by a bag.
 pub struct Shared;
@@ -105,7 +105,7 @@ fn take_row<R: Wait>(
 
 impl Schedule for Shared {
     ghost use Rattle.std.specs.Prelude.{false, []};
-    ghost use Rattle.vt_shared_rows.specs.Bags.{IsPassOfBag};
+    ghost use Rattle.vt_schedules.specs.Bags.{IsPassOfBag};
     ghost use Rattle.vt_schedules.specs.Sharing.{HasBagPass, TookWay, EndedWay, AreSplit, AreBack};
     ghost use Rattle.vt_schedules.specs.SharingLaws.{none_back, took_way_none, all_taken_way};
 

@@ -2,14 +2,14 @@
 use Rattle.std.proofs.Common.{◌≡◌, ℕ, zero, suc, ◌+◌, ◌≤◌, inl, inr, ◌⊎◌, false, Option, None, Some, List, [], ◌∷◌, ◌++◌, length, refl, sym, ap, ◌∙◌, subst, arith, length-append}
 use Rattle.std.specs.Prelude.{slice_get, MatchOption}
 use Rattle.vt_definitions.specs.Limits.{most_versions}
-use Rattle.vt_pages.specs.Shape.{Shape}
+use Rattle.vt_journal.specs.Shape.{Shape}
 use Rattle.vt_journal.specs.declared.changes.Change.{Change}
 use Rattle.vt_journal.specs.declared.changes.Change.TheVariants.{Map}
 use Rattle.vt_journal.specs.declared.changes.Event.TheVariants.{Changed as Made}
 use Rattle.vt_journal.specs.Changes.{Table, IsFree}
 use Rattle.vt_journal.specs.JournalText.{changes_of}
-use Rattle.vt_machine.specs.PlanTypes.batches.Planned.{Planned}
-use Rattle.vt_machine.specs.Outcomes.{IsEntryFor, IsVictimOf, victim_events, group_of}
+use Rattle.vt_page_table.specs.PlanTypes.batches.Planned.{Planned}
+use Rattle.vt_page_table.specs.Outcomes.{IsEntryFor, IsVictimOf, victim_events, group_of}
 use Rattle.vt_page_table.specs.Fills.{AreTexelWords, FillsOne}
 use Rattle.vt_swap.specs.LogTypes.records.LogRecord.{LogRecord}
 use Rattle.vt_swap.specs.LogTypes.records.LogRecord.TheVariants.{Changed, Filled}

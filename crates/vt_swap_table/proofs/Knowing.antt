@@ -5,15 +5,15 @@ use Rattle.std.proofs.lemmas.Bool.{false≢true}
 use Rattle.std.proofs.lemmas.List.Elements.{Contains-append_left}
 use Rattle.std.proofs.lemmas.Option.{same_Some}
 use mathlib.Core.List.{IsPrefix}
-use Rattle.vt_tiles.specs.Shape.{Shape}
-use Rattle.vt_tiles.specs.Pages.{texel_page}
-use Rattle.vt_tiles.specs.PagesLaws.{IsInside}
-use Rattle.vt_tiles.specs.Format.{stored}
-use Rattle.vt_tiles.specs.StoreViews.{IsStore}
-use Rattle.vt_tiles.proofs.Stored.{pieces_hold_texels}
-use Rattle.vt_pictures.specs.DrawLookups.{Note, WordNote, place_in_tile}
-use Rattle.vt_pictures.specs.Evidence.{AreTrue}
-use Rattle.vt_pictures.proofs.Versions.{one_to_one}
+use Rattle.vt_journal.specs.Shape.{Shape}
+use Rattle.vt_journal.specs.Pages.{texel_page}
+use Rattle.vt_journal.specs.Laws.{IsInside}
+use Rattle.vt_page_table.specs.Format.{stored}
+use Rattle.vt_page_table.specs.StoreViews.{IsStore}
+use Rattle.vt_page_table.proofs.Stored.{pieces_hold_texels}
+use Rattle.vt_page_table.specs.DrawLookups.{Note, WordNote, place_in_tile}
+use Rattle.vt_page_table.specs.Evidence.{AreTrue}
+use Rattle.vt_journal.proofs.Versions.{one_to_one}
 use Rattle.vt_journal.specs.declared.changes.Change.{Change}
 use Rattle.vt_journal.specs.Changes.{at}
 use Rattle.vt_journal.specs.Kept.{entry_of}

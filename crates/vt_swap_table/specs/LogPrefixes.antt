@@ -3,7 +3,7 @@ use Rattle.std.proofs.Common.{◌≡◌, ℕ, ◌≤◌, List, [], ◌∷◌, �
 use Rattle.std.specs.Prelude.{All}
 use Rattle.std.proofs.lemmas.List.Elements.{All-tail}
 use mathlib.Core.List.{IsPrefix}
-use Rattle.vt_pictures.specs.DrawLookups.{Note, EntryNote, WordNote}
+use Rattle.vt_page_table.specs.DrawLookups.{Note, EntryNote, WordNote}
 use Rattle.vt_journal.specs.declared.changes.Change.{Change}
 use Rattle.vt_journal.specs.Changes.{Table, at}
 use Rattle.vt_journal.proofs.Versions.{at-front}

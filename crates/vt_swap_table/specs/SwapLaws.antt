@@ -3,8 +3,8 @@ use Rattle.std.proofs.Common.{ℕ, ◌≤◌, Option, None, Some, List, [], ◌�
 use Rattle.std.specs.Prelude.{All, Contains}
 use Rattle.std.proofs.lemmas.List.Elements.{All-contains, Contains-append_left, Contains-append_right}
 use Rattle.vt_definitions.specs.Limits.{most_versions}
-use Rattle.vt_pages.specs.Shape.{Shape}
-use Rattle.vt_pictures.specs.DrawLookups.{Note}
+use Rattle.vt_journal.specs.Shape.{Shape}
+use Rattle.vt_page_table.specs.DrawLookups.{Note}
 use Rattle.vt_swap.specs.LogTypes.frame.FrameKey.{FrameKey}
 use Rattle.vt_swap.specs.Notes.{IsSaidBy}
 use Rattle.vt_swap.specs.Readers.{ReaderView, HasEnteredMore, WasEntered}

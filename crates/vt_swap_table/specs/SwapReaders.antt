@@ -1,8 +1,8 @@
 -- Readers of the swapped table.
 use Rattle.std.specs.Prelude.{◌≡◌, ℕ, ◌≤◌, Option, None, Some, List, length, Contains}
-use Rattle.vt_pages.specs.Shape.{Shape}
-use Rattle.vt_pages.specs.Pages.{pages_of}
-use Rattle.vt_pictures.specs.DrawLookups.{Note}
+use Rattle.vt_journal.specs.Shape.{Shape}
+use Rattle.vt_journal.specs.Pages.{pages_of}
+use Rattle.vt_page_table.specs.DrawLookups.{Note}
 use Rattle.vt_swap.specs.LogTypes.frame.FrameKey.{FrameKey}
 use Rattle.vt_swap.specs.Caches.{Cache}
 use Rattle.vt_swap.specs.Slots.{AreSlotsOf}

@@ -6,11 +6,9 @@ use crate::readers::{join_readers, new_spares, see};
 use std::alloc::Global;
 use std::mem;
 use std::sync::Wait;
-use vt_machine::{Journal, Planned, Shot};
+use vt_journal::{Geometry, Journal};
 use vt_outside::{Gate, Items, NoMemory};
-use vt_page_table::PageTable;
-use vt_pages::Geometry;
-use vt_pictures::Filter;
+use vt_page_table::{Filter, PageTable, Planned, Shot};
 use vt_swap::{Slot, SwapStreamer, TableReader, new_cache};
 
 /// The swapped table.

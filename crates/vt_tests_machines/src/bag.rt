@@ -1,11 +1,11 @@
 //! A bag of rows.
 
-ghost use Rattle.vt_shared_rows.specs.Bags.{IsPassOfBag};
+ghost use Rattle.vt_schedules.specs.Bags.{IsPassOfBag};
 
 use std::alloc::Global;
 use std::sync::Wait;
 use vt_outside::{Bytes, NoMemory};
-use vt_shared_rows::{BagPass, RowBag, RowJob};
+use vt_schedules::{BagPass, RowBag, RowJob};
 
 // A row of a picture that is not drawn.
 fn row(alloc: Global, number: u32) -> RowJob {

@@ -2,18 +2,17 @@
 //! pixels is drawn each time.
 
 ghost use Rattle.std.specs.Prelude.{◌≡◌, ◌<◌, [], ◌∷◌, length, IsTrue};
-ghost use Rattle.vt_pages.specs.Pages.{pages_of};
+ghost use Rattle.vt_tiles.specs.Pages.{pages_of};
 ghost use Rattle.vt_pictures.specs.JournalTypes.changes.Change.TheVariants.{Map, Unmap};
 ghost use Rattle.vt_swap.specs.Slots.{AreSlotsOf};
 
 use std::alloc::Global;
 use std::sync::Wait;
 use vt_camera::{Path, parse_path};
-use vt_draw::Shot;
 use vt_outside::OpenGate;
-use vt_pages::Geometry;
-use vt_pictures::Nearest;
+use vt_pictures::{Nearest, Shot};
 use vt_swap::{Slot, SwapStreamer, TableReader, new_cache};
+use vt_tiles::Geometry;
 
 // A picture of two pixels that want the pages 2 and 0.
 const PICTURE: &[u8] = b"size 2 1\nfocal 1\nat 0 0 256 16384 0\n";

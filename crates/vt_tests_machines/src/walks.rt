@@ -13,15 +13,11 @@ use std::alloc::Global;
 use std::process::Abort;
 use std::sync::Wait;
 use std::thread::Threads;
-use vt_bilinear::BlendMachine;
+use vt_bilinear::{BlendMachine, StealMachine, SwapMachine, WordMachine};
 use vt_camera::{Path, parse_path};
 use vt_machine::{Crew, PassMachine};
 use vt_outside::{Fails, Folder, Gate, MemoryFile, MemoryFolder, MemorySink, OpenGate};
-use vt_pages::Geometry;
-use vt_pass::WordMachine;
-use vt_steal::StealMachine;
-use vt_swap_machine::SwapMachine;
-use vt_tiles::Store;
+use vt_tiles::{Geometry, Store};
 use vt_walk::{Names, Settings, walk_with};
 
 // The store, with tiles of side 2, of the texture of 4x4 texels whose texel (x, y) is 4y+x in each channel: its header, and the tiles of four

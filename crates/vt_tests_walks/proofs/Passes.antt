@@ -4,8 +4,8 @@ use Rattle.std.proofs.lemmas.Option.{none-some}
 use Rattle.std.specs.Prelude.{IfSome, All, AllPairs}
 use Rattle.vt_outside.specs.declared.outside.File.{Ghosts as FileMeanings}
 use Rattle.vt_outside.specs.Files.{IsPiece}
-use Rattle.vt_pages.specs.Shape.{Shape}
-use Rattle.vt_pages.specs.Pages.{pages_of}
+use Rattle.vt_journal.specs.Shape.{Shape}
+use Rattle.vt_journal.specs.Pages.{pages_of}
 use Rattle.vt_journal.specs.declared.changes.Change.{Change}
 use Rattle.vt_journal.specs.declared.changes.Change.TheVariants.{Map}
 use Rattle.vt_journal.specs.Changes.{Table, changed, at, newest, IsFree, IsNext}
@@ -15,14 +15,14 @@ use Rattle.vt_streamer.specs.TableViews.{IsTile}
 use Rattle.vt_grace.specs.declared.sizes.Sizes.{Sizes}
 use Rattle.vt_grace.specs.Values.{WordsValue}
 use Rattle.vt_streamer.specs.Views.{StreamerView, IsStreamerOf}
-use Rattle.vt_evict.specs.PlanTypes.batches.Planned.{Planned}
+use Rattle.vt_machine.specs.PlanTypes.batches.Planned.{Planned}
 use Rattle.vt_machine.specs.Crews.{last_start}
 use Rattle.vt_machine.specs.Machines.{known_bytes}
 use Rattle.vt_machine.specs.Outcomes.{IsEntryFor, IsBatchFor}
 use Rattle.vt_machine.specs.Passes.{MayPlace}
 use Rattle.vt_pass.specs.WorkerPools.{WorkerPoolView, pool_state, IsIdlePool}
-use Rattle.vt_pass.specs.Placed.{HasPlaced}
-use Rattle.vt_pass.proofs.Idle.{idle_placed}
+use Rattle.vt_tests_walks.specs.Placed.{HasPlaced}
+use Rattle.vt_tests_walks.proofs.Placing.{idle_placed}
 
 -- in the first version each frame is free
 pub free_at_first : (js : List Change) (frame : ℕ) → js ≡ [] → IsFree (newest js) frame
@@ -85,4 +85,4 @@ module _ {F : Type 0} (g : FileMeanings F) (words : WordsValue) (v : StreamerVie
   pub root_placed : (w : StreamerView) → v.writer.journal ≡ [] → pages_of v.shape ≡ 5 → length v.owners ≡ 3 → k.depth ≡ 1
       → IfSome (known_bytes g k.stores) (λ b. IsPiece b (tile_start k.shape 1 4) tile) → IsStreamerOf words w → HasPlaced v w 4 0 tile → IsIdlePool g words w k
   root_placed w none pages frames depth of_store of placed =
-      idle_placed g words v w k 4 0 tile (Ok tt) idle of (may_place none pages frames depth of_store) placed tt
+      idle_placed g words v w k 4 0 tile idle of (may_place none pages frames depth of_store) placed

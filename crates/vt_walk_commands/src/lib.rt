@@ -10,6 +10,7 @@ pub use commands::trial::trial;
 pub use commands::walk::walk;
 pub use live::{walk_live, walk_settled};
 pub use machines::Machines;
+pub use vt_bilinear::{Bilinear, BlendMachine, StealMachine, SwapMachine, WordMachine};
 pub use vt_store_commands::commands::{
     StoreCommand, perform_store_command, read_store_command, usage_line,
 };

@@ -8,16 +8,16 @@ use Rattle.std.proofs.lemmas.Option.{none-some}
 use Rattle.vt_journal.specs.declared.changes.Change.{Change}
 use Rattle.vt_journal.specs.declared.changes.Change.TheVariants.{Map, Unmap}
 use Rattle.vt_journal.specs.JournalText.{changes_of}
-use Rattle.vt_tiles.specs.Shape.{Shape}
-use Rattle.vt_tiles.specs.Depths.{texel_length}
-use Rattle.vt_tiles.specs.Format.{tile_length}
-use Rattle.vt_machine.specs.Outcomes.{group_of}
+use Rattle.vt_journal.specs.Shape.{Shape}
+use Rattle.vt_journal.specs.Depths.{texel_length}
+use Rattle.vt_page_table.specs.Format.{tile_length}
+use Rattle.vt_page_table.specs.Outcomes.{group_of}
 use Rattle.vt_page_table.specs.Fills.{AreTexelWords, FillsOne, IsStoredPage, AreStoredPages}
-use Rattle.vt_streamer.specs.TableViews.{tile_word}
-use Rattle.vt_streamer.specs.Fills.{words_in}
-use Rattle.vt_streamer.specs.GraceTypes.views.WriterView.{WriterView}
-use Rattle.vt_streaming.proofs.TileWords.{word_is}
-use Rattle.vt_streaming.specs.Made.{HasMade, victim_contents, group_contents}
+use Rattle.vt_table.specs.Views.{tile_word}
+use Rattle.vt_word_samplers.specs.Fills.{words_in}
+use Rattle.vt_grace.specs.declared.views.WriterView.{WriterView}
+use Rattle.vt_table.proofs.TileWords.{word_is}
+use Rattle.vt_word_samplers.specs.Made.{HasMade, victim_contents, group_contents}
 use Rattle.vt_word_samplers.specs.Stored.{AreStored}
 use Rattle.vt_word_table.specs.WordWriters.{IsMappedWith, HasTakenMore}
 

@@ -4,8 +4,8 @@ use Rattle.std.specs.Prelude.{All, Contains, IsSome, slice_set}
 use Rattle.std.proofs.lemmas.List.{get_or-set_other}
 use Rattle.std.proofs.lemmas.List.Elements.{All-contains, Contains-append_left}
 use Rattle.std.proofs.lemmas.Option.{get_or_from_slice_get, slice_get_within}
-use Rattle.vt_tiles.specs.Shape.{Shape}
-use Rattle.vt_tiles.specs.Pages.{root_of}
+use Rattle.vt_journal.specs.Shape.{Shape}
+use Rattle.vt_journal.specs.Pages.{root_of}
 use Rattle.vt_journal.specs.Changes.{newest}
 use Rattle.vt_journal.specs.Lookups.{is_mapped}
 use Rattle.vt_page_table.specs.Readers.{AreHome}
@@ -18,10 +18,10 @@ use Rattle.vt_sampler.specs.GraceTypes.views.WriterView.{WriterView}
 use Rattle.vt_sampler.specs.Values.{WordsValue, PassValue}
 use Rattle.vt_sampler.specs.Tokens.{IsPassOf}
 use Rattle.vt_sampler.specs.LookupNotes.{FitsShape, IsNotedIn, HasHeldMore}
-use Rattle.vt_streamer.specs.WriterViews.{is_out, first_writer, after_look, version_of}
-use Rattle.vt_streamer.specs.Giving.{after_giving, after_return, new_pass}
-use Rattle.vt_streamer.specs.Views.{StreamerView, IsStreamerOf}
-use Rattle.vt_streamer.specs.Sound.{IsSound, IsSoundReturn}
+use Rattle.vt_grace.specs.WriterViews.{is_out, first_writer, after_look, version_of}
+use Rattle.vt_grace.specs.Giving.{after_giving, after_return, new_pass}
+use Rattle.vt_word_samplers.specs.Views.{StreamerView, IsStreamerOf}
+use Rattle.vt_grace.specs.Sound.{IsSound, IsSoundReturn}
 use Rattle.vt_word_samplers.specs.Noted.{IsAmong, IsNotedBy}
 use Rattle.vt_word_table.specs.declared.table.WordReader.{WordReader}
 use Rattle.vt_word_table.specs.WordReaders.{IsAtHome, HasOwnPass, HeldAt}

@@ -6,15 +6,15 @@ use Rattle.vt_journal.specs.declared.changes.Event.{Event}
 use Rattle.vt_journal.specs.declared.changes.Event.TheVariants.{Changed}
 use Rattle.vt_journal.specs.JournalText.{changes_of}
 use Rattle.vt_journal.proofs.EventLines.{changes_of-append}
-use Rattle.vt_streamer.specs.GraceTypes.views.WriterView.{WriterView}
-use Rattle.vt_streamer.specs.Places.{content_of}
-use Rattle.vt_streamer.specs.Banks.{HasPublished}
-use Rattle.vt_streamer.specs.Looks.{HasOnlyLooked}
-use Rattle.vt_streamer.specs.Views.{StreamerView, streamer_table, IsStreamerOf}
-use Rattle.vt_streamer.specs.GraceTypes.sizes.Sizes.{Sizes}
-use Rattle.vt_streamer.specs.Values.{WordsValue}
+use Rattle.vt_grace.specs.declared.views.WriterView.{WriterView}
+use Rattle.vt_grace.specs.Places.{content_of}
+use Rattle.vt_word_samplers.specs.Banks.{HasPublished}
+use Rattle.vt_word_samplers.specs.Looks.{HasOnlyLooked}
+use Rattle.vt_word_samplers.specs.Views.{StreamerView, streamer_table, IsStreamerOf}
+use Rattle.vt_grace.specs.declared.sizes.Sizes.{Sizes}
+use Rattle.vt_grace.specs.Values.{WordsValue}
 use Rattle.vt_requests.specs.Streams.{Publishes}
-use Rattle.vt_streaming.specs.Made.{HasMade, after_looks}
+use Rattle.vt_word_samplers.specs.Made.{HasMade, after_looks}
 
 pub made_none : (v : WriterView) → HasMade [] [] v v
 made_none v = record { journal = sym (append-nil v.journal); contents = sym (append-nil v.contents); rest = refl }

@@ -1,6 +1,6 @@
 -- Readers of shared words: each has its pass of them while it is not at home.
 use Rattle.std.specs.Prelude.{◌≡◌, ℕ, ◌≤◌, ◌<◌, true, false, Option, None, Some, List, [], ◌∷◌}
-use Rattle.vt_tiles.specs.Shape.{Shape}
+use Rattle.vt_journal.specs.Shape.{Shape}
 use Rattle.vt_sampler.specs.Lookups.{Note}
 use Rattle.vt_sampler.specs.GraceTypes.views.PassView.{PassView}
 use Rattle.vt_sampler.specs.GraceTypes.views.WriterView.{WriterView}
@@ -8,8 +8,8 @@ use Rattle.vt_sampler.specs.Values.{WordsValue, PassValue}
 use Rattle.vt_sampler.specs.Tokens.{IsPassOf}
 use Rattle.vt_sampler.specs.LookupNotes.{FitsShape, IsNotedIn, HasHeldMore}
 use Rattle.vt_sampler.specs.Held.{WasHeld}
-use Rattle.vt_lookup.specs.PassViews.{NoneAbove}
-use Rattle.vt_streamer.specs.WriterViews.{is_out}
+use Rattle.vt_grace.specs.PassViews.{NoneAbove}
+use Rattle.vt_grace.specs.WriterViews.{is_out}
 
 -- a sampler's pass is home
 pub record IsAtHome (w : WriterView) (number : ℕ) (o : Option PassValue) : Type 0 where

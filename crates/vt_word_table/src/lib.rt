@@ -8,3 +8,4 @@ mod table;
 mod waits;
 
 pub use table::{WordReader, WordTable};
+pub use vt_sampler::Nearest;

@@ -6,12 +6,11 @@ use crate::entries::{map_page, put_entry};
 use std::alloc::Global;
 use std::mem;
 use std::sync::Wait;
-use vt_machine::{Journal, Planned, Shot};
+use vt_journal::{Geometry, Journal};
 use vt_outside::{Gate, Items, NoMemory};
-use vt_page_table::PageTable;
-use vt_pages::Geometry;
+use vt_page_table::{PageTable, Planned, Shot};
 use vt_sampler::{Filter, Pass, Words, draw_held};
-use vt_streaming::Streamer;
+use vt_word_samplers::Streamer;
 
 /// The shared words.
 pub struct WordTable;
@@ -24,8 +23,8 @@ pub struct WordReader {
 
 impl PageTable for WordTable {
     ghost use Rattle.std.specs.Prelude.{◌≡◌, ◌≤◌, ◌<◌, false, None, length};
-    ghost use Rattle.vt_streamer.specs.WriterViews.{is_out};
-    ghost use Rattle.vt_streamer.specs.Views.{IsStreamerOf};
+    ghost use Rattle.vt_grace.specs.WriterViews.{is_out};
+    ghost use Rattle.vt_word_samplers.specs.Views.{IsStreamerOf};
     ghost use Rattle.vt_word_samplers.specs.Noted.{IsNotedBy};
     ghost use Rattle.vt_word_table.specs.WordReaders.{IsAtHome, HasOwnPass, given_of, IsNotedIf, EnteredWith, HeldRow, HeldRows, HeldAt};
     ghost use Rattle.vt_word_table.specs.WordWriters.{IsMappedWith, HasTakenMore, CameHomeIf, WasBack};

@@ -15,16 +15,14 @@ use std::process::ExitCode;
 use std::sync::Wait;
 use std::thread::Threads;
 use std::{env, io};
-use vt_bilinear::{Bilinear, BlendMachine};
 use vt_command_inputs::Refusal;
 use vt_machine::PassMachine;
 use vt_outside::{Folder, Gate, OpenGate, RealFolder, RealSink, Sink};
-use vt_pass::WordMachine;
 use vt_pictures::{Filter, Nearest};
-use vt_steal::StealMachine;
-use vt_swap_machine::SwapMachine;
 pub use vt_top_call::run;
-use vt_top_call::{run_by, usage_line};
+use vt_top_call::{
+    Bilinear, BlendMachine, StealMachine, SwapMachine, WordMachine, run_by, usage_line,
+};
 
 // The words after the program's name.
 fn words_of(rt: &HostRuntime, alloc: Global) -> io::Result<Vec<String>> {

@@ -4,12 +4,8 @@ use super::gates::{Meeting, Meetings};
 use std::alloc::{AllocError, Global};
 use std::sync::Wait;
 use std::thread::Threads;
-use vt_bilinear::BlendMachine;
 use vt_outside::{Fail, Fails, MemoryFile, MemoryFolder, MemorySink, NoMemory};
-use vt_pass::WordMachine;
-use vt_steal::StealMachine;
-use vt_swap_machine::SwapMachine;
-use vt_top_call::run_by;
+use vt_top_call::{BlendMachine, StealMachine, SwapMachine, WordMachine, run_by};
 
 /// What commands run over: a folder in memory, the output and the error output, and the gate of their workers.
 #[derive(Drop)]

@@ -3,7 +3,7 @@
 ghost use Rattle.std.specs.Prelude.{◌≡◌, ◌<◌, ◌≤◌, [], ◌∷◌, length, None, IfSome, IfOk};
 ghost use Rattle.std.specs.Bool.{OnTrue};
 ghost use Rattle.vt_outside.specs.Files.{IsPiece};
-ghost use Rattle.vt_pages.specs.Pages.{pages_of};
+ghost use Rattle.vt_journal.specs.Pages.{pages_of};
 ghost use Rattle.vt_journal.specs.Changes.{newest};
 ghost use Rattle.vt_journal.specs.declared.changes.Change.TheVariants.{Map as MapEntry};
 ghost use Rattle.vt_tiles.specs.Format.{tile_length, tile_start};
@@ -13,7 +13,7 @@ ghost use Rattle.vt_machine.specs.Jobs.{job_of};
 ghost use Rattle.vt_machine.specs.Machines.{known_bytes};
 ghost use Rattle.vt_machine.specs.Outcomes.{IsBatchFor};
 ghost use Rattle.vt_machine.specs.Passes.{IsJobFor};
-ghost use Rattle.vt_pass.specs.Placed.{HasPlaced};
+ghost use Rattle.vt_tests_walks.specs.Placed.{HasPlaced};
 ghost use Rattle.vt_pass.specs.WorkerPools.{pool_setup, IsIdlePool};
 
 use crate::cases::{Case, Deed, check};
@@ -25,14 +25,13 @@ use std::process::Abort;
 use std::sync::Wait;
 use std::thread::Threads;
 use vt_camera::Path;
-use vt_draw::Shot;
-use vt_evict::{Batch, Planned};
 use vt_feedback::Wanted;
 use vt_grace::Words;
 use vt_journal::{Change, Event};
-use vt_machine::{Crew, PassReport};
+use vt_machine::{Batch, Crew, PassReport, Planned};
 use vt_outside::{Fail, File, Folder, Items, MemoryFolder, NoMemory, OpenGate, Place};
 use vt_pass::{PassKit, run_pass};
+use vt_pictures::Shot;
 use vt_streamer::Streamer;
 
 // Maps a page to the first frame of words in which nothing is mapped and no sampler has a pass: whether it was done.

@@ -2,15 +2,15 @@
 
 ghost use Rattle.std.specs.Prelude.{◌≡◌, ◌<◌, IfSome};
 ghost use Rattle.vt_outside.specs.Files.{IsPiece};
-ghost use Rattle.vt_pages.specs.Pages.{pages_of, root_of};
+ghost use Rattle.vt_journal.specs.Pages.{pages_of, root_of};
 ghost use Rattle.vt_tiles.specs.Format.{tile_start};
 ghost use Rattle.vt_machine.specs.Machines.{known_bytes, AreStoresFor};
 
 use crate::fixtures::open_store;
 use std::alloc::Global;
 use std::process::Abort;
+use vt_journal::Geometry;
 use vt_outside::{File, Folder};
-use vt_pages::Geometry;
 use vt_tiles::{Store, Stores};
 
 /// The page of the last level.

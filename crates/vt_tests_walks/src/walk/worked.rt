@@ -14,11 +14,11 @@ use std::process::Abort;
 use std::sync::Wait;
 use std::thread::Threads;
 use vt_camera::Path;
+use vt_journal::Geometry;
 use vt_outside::{Fail, Fails, Folder, MemoryFolder, MemorySink, NoMemory, OpenGate, Sink};
-use vt_pages::Geometry;
 use vt_tiles::Store;
+use vt_top_call::{walk_live, walk_settled};
 use vt_walk::{Mode, Names, Settings, WalkError};
-use vt_walk_commands::{walk_live, walk_settled};
 
 /// A walk, and what is to be there after it. In the folder opening 0 is the path's, opening 1 the store's, and the loaders' follow.
 #[derive(Clone, Copy)]

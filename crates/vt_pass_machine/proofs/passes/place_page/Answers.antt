@@ -1,10 +1,10 @@
 use Rattle.std.proofs.Common.{◌≡◌, ◌<◌, List, [], ◌∷◌, length, sym, subst, arith}
-use Rattle.vt_pages.specs.Shape.{Shape}
-use Rattle.vt_pages.specs.Pages.{pages_of}
-use Rattle.vt_pictures.specs.JournalTypes.changes.Change.{Change}
-use Rattle.vt_pictures.specs.JournalTypes.changes.Change.TheVariants.{Map}
-use Rattle.vt_pictures.specs.Changes.{newest, IsNext}
-use Rattle.vt_machine.specs.Format.{tile_length}
+use Rattle.vt_load.specs.Shape.{Shape}
+use Rattle.vt_pass_pool.specs.Pages.{pages_of}
+use Rattle.vt_pass_pool.specs.JournalTypes.changes.Change.{Change}
+use Rattle.vt_pass_pool.specs.JournalTypes.changes.Change.TheVariants.{Map}
+use Rattle.vt_pass_pool.specs.Changes.{newest, IsNext}
+use Rattle.vt_load.specs.Format.{tile_length}
 use Rattle.vt_pass_machine.proofs.Placing.{none_placed, then_placed, placed_from, same_from}
 use Rattle.vt_pass_machine.proofs.passes.place_page.Goals as goal
 

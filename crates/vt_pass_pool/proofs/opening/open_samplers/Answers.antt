@@ -2,10 +2,10 @@ use Rattle.std.proofs.Common.{◌≡◌, ℕ, ◌+◌, ◌<◌, ◌≤◌, List,
 use Rattle.std.specs.Prelude.{slice_get, IsSome}
 use Rattle.std.proofs.lemmas.List.{length-set, length-map, length-take-le}
 use Rattle.std.proofs.lemmas.Option.{slice_get_within, slice_get-get_or}
-use Rattle.vt_pages.specs.Shape.{Shape}
-use Rattle.vt_pages.specs.Pages.{root_of}
-use Rattle.vt_pictures.specs.JournalTypes.changes.Change.{Change}
-use Rattle.vt_pictures.specs.Changes.{newest}
+use Rattle.vt_journal.specs.Shape.{Shape}
+use Rattle.vt_journal.specs.Pages.{root_of}
+use Rattle.vt_journal.specs.declared.changes.Change.{Change}
+use Rattle.vt_journal.specs.Changes.{newest}
 use Rattle.vt_pass_pool.specs.Pools.{IsSameSampler, IsReadySampler, ways_of}
 use Rattle.vt_pass_pool.proofs.Listed.{one_more, each_more, rest_same, map_take_more, set_same, set_other, take_set_same}
 use Rattle.vt_pass_pool.proofs.Stills.{still_none, still_more}

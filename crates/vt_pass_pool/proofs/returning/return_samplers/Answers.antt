@@ -3,7 +3,7 @@ use Rattle.std.specs.Prelude.{slice_get, All}
 use Rattle.std.proofs.lemmas.Bool.{false≢true}
 use Rattle.std.proofs.lemmas.List.{length-set}
 use Rattle.std.proofs.lemmas.Option.{slice_get_within, slice_get-get_or}
-use Rattle.vt_pages.specs.Shape.{Shape}
+use Rattle.vt_journal.specs.Shape.{Shape}
 use Rattle.vt_pass_pool.specs.Pools.{IsSameSampler, ways_of}
 use Rattle.vt_pass_pool.specs.Placing.{IsRowInside, ArePlaced}
 use Rattle.vt_pass_pool.specs.Returned.{IsOut, IsClosed}

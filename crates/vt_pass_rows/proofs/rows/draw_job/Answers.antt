@@ -1,7 +1,7 @@
 use Rattle.std.proofs.Common.{ℕ, List, length, sym, ap, ◌∙◌, subst}
-use Rattle.vt_pictures.specs.Shots.{shot_row}
-use Rattle.vt_pictures.specs.Evidence.{AreShown}
-use Rattle.vt_shared_rows.proofs.Keepers.{refilled}
+use Rattle.vt_page_table.specs.Shots.{shot_row}
+use Rattle.vt_page_table.specs.Evidence.{AreShown}
+use Rattle.vt_schedules.proofs.Keepers.{refilled}
 use Rattle.vt_pass_rows.proofs.rows.draw_job.Goals as goal
 
 pub returns-clause-drawn : goal.returns-clause-drawn

@@ -3,14 +3,14 @@ use Rattle.std.specs.Prelude.{All}
 use Rattle.std.proofs.lemmas.Nat.{mul-le}
 use Rattle.std.proofs.lemmas.List.{length_push}
 use Rattle.std.proofs.lemmas.List.Elements.{All-nil}
-use Rattle.vt_pictures.specs.Shots.{shot_row, wants_in_rows}
-use Rattle.vt_sampler.proofs.Sharing.{wants-none, wants-push}
-use Rattle.vt_shared_rows.specs.declared.bag.RowJob.{RowJob}
-use Rattle.vt_shared_rows.specs.SharedRows.{VersionsRise, rows_of, versions_of}
-use Rattle.vt_shared_rows.proofs.Taken.{rows_push}
-use Rattle.vt_shared_rows.proofs.Keepers.{wants_most, rows_number, versions_push}
+use Rattle.vt_page_table.specs.Shots.{shot_row, wants_in_rows}
+use Rattle.vt_schedules.proofs.Sharing.{wants-none, wants-push}
+use Rattle.vt_schedules.specs.declared.bag.RowJob.{RowJob}
+use Rattle.vt_schedules.specs.SharedRows.{VersionsRise, rows_of, versions_of}
+use Rattle.vt_schedules.proofs.Taken.{rows_push}
+use Rattle.vt_schedules.proofs.Keepers.{rows_number, versions_push}
 use Rattle.vt_pass_rows.specs.DrawnRows.{IsDrawnRow}
-use Rattle.vt_pass_rows.proofs.Keeping.{kept_more, versions_more}
+use Rattle.vt_pass_rows.proofs.Keeping.{wants_most, kept_more, versions_more}
 use Rattle.vt_pass_rows.proofs.rows.draw_rows.Goals as goal
 
 pub loop-init : goal.loop-init

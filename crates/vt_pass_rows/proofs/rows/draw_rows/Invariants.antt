@@ -1,7 +1,7 @@
 use Rattle.std.proofs.Common.{◌≡◌, ℕ, ◌+◌, ◌<◌, ◌≤◌, length, reverse}
 use Rattle.std.specs.Prelude.{slice_index, All}
-use Rattle.vt_pictures.specs.Shots.{wants_in_rows}
-use Rattle.vt_shared_rows.specs.SharedRows.{VersionsRise, rows_of, versions_of}
+use Rattle.vt_page_table.specs.Shots.{wants_in_rows}
+use Rattle.vt_schedules.specs.SharedRows.{VersionsRise, rows_of, versions_of}
 use Rattle.vt_pass_rows.specs.DrawnRows.{IsDrawnRow}
 use Rattle.vt_pass_rows.proofs.rows.draw_rows.Given as goal
 

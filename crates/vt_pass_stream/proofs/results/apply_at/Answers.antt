@@ -1,8 +1,8 @@
 use Rattle.std.proofs.Common.{Option, ◌++◌, ◌∙◌, ap, sym}
 use Rattle.std.proofs.lemmas.Option.{slice_get-get_or}
-use Rattle.vt_machine.specs.PlanTypes.batches.Planned.{Planned}
-use Rattle.vt_requests.specs.Readings.{is_lost}
-use Rattle.vt_machine.specs.Outcomes.{group_if}
+use Rattle.vt_page_table.specs.PlanTypes.batches.Planned.{Planned}
+use Rattle.vt_streaming.specs.Readings.{is_lost}
+use Rattle.vt_page_table.specs.Outcomes.{group_if}
 use Rattle.vt_pass_stream.proofs.Applying.{applied_at}
 use Rattle.vt_pass_stream.proofs.results.apply_at.Goals as goal
 

@@ -2,15 +2,15 @@ use Rattle.std.proofs.Common.{◌≡◌, ℕ, ◌+◌, ◌-◌, ◌*◌, ◌<◌
 use Rattle.std.specs.Prelude.{slice_index_or, All}
 use Rattle.std.proofs.lemmas.Bool.{false≢true}
 use Rattle.std.proofs.lemmas.List.Elements.{All-nil, All-push}
-use Rattle.vt_machine.specs.Format.{tile_length}
-use Rattle.vt_machine.specs.Shape.{Shape}
-use Rattle.vt_machine.specs.Changes.{newest}
-use Rattle.vt_machine.specs.Outcomes.{IsEntryFor}
+use Rattle.vt_page_table.specs.Format.{tile_length}
+use Rattle.vt_journal.specs.Shape.{Shape}
+use Rattle.vt_journal.specs.Changes.{newest}
+use Rattle.vt_page_table.specs.Outcomes.{IsEntryFor}
 use Rattle.vt_queue.specs.declared.items.Loaded.{Loaded}
 use Rattle.vt_queue.specs.Queues.{queue_view_of}
-use Rattle.vt_requests.specs.Readings.{is_lost}
-use Rattle.vt_requests.specs.BatchRounds.{AreLossesOf}
-use Rattle.vt_requests.specs.TakenResults.{Streams}
+use Rattle.vt_streaming.specs.Readings.{is_lost}
+use Rattle.vt_streaming.specs.BatchRounds.{AreLossesOf}
+use Rattle.vt_streaming.specs.TakenResults.{Streams}
 use Rattle.vt_pass_stream.proofs.Taking.{kept_inside, kept_new, kept_full, streams_none, streams_kept}
 use Rattle.vt_pass_stream.proofs.Lasting.{begun, under_way, losses_more}
 use Rattle.vt_pass_stream.proofs.stream.stream_into.Goals as goal

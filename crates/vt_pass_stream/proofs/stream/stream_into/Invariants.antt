@@ -1,9 +1,9 @@
 use Rattle.std.proofs.Common.{◌≡◌, ℕ, ◌+◌, ◌≤◌, true, false, length}
 use Rattle.std.specs.Prelude.{All}
 use Rattle.vt_queue.specs.Queues.{queue_view_of, queue_splits_of, IsPassOfQueue}
-use Rattle.vt_machine.specs.Format.{tile_length}
-use Rattle.vt_requests.specs.BatchRounds.{AreLossesOf}
-use Rattle.vt_requests.specs.TakenResults.{Streams}
+use Rattle.vt_page_table.specs.Format.{tile_length}
+use Rattle.vt_streaming.specs.BatchRounds.{AreLossesOf}
+use Rattle.vt_streaming.specs.TakenResults.{Streams}
 use Rattle.vt_pass_stream.specs.Streamed.{IsUnderWay}
 use Rattle.vt_pass_stream.proofs.stream.stream_into.Given as goal
 

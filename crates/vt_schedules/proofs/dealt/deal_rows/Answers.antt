@@ -3,7 +3,7 @@ use Rattle.std.specs.Prelude.{reverse}
 use Rattle.std.proofs.lemmas.Bool.{cases_eq}
 use Rattle.std.proofs.lemmas.Option.{slice_get-get_or}
 use Rattle.vt_definitions.specs.Dealing.{sampler_of}
-use Rattle.vt_shared_rows.specs.declared.bag.RowJob.{RowJob}
+use Rattle.vt_schedules.specs.declared.bag.RowJob.{RowJob}
 use Rattle.vt_schedules.proofs.Dealing.{HasLast, own_last, last_none, last_more, own_last-all}
 use Rattle.vt_schedules.proofs.dealt.deal_rows.Goals as goal
 

@@ -1,6 +1,6 @@
 use Rattle.std.proofs.Common.{◌≡◌, ◌≢◌, ℕ, ◌+◌, ◌-◌, ◌<◌, ◌≤◌, length, get_or}
 use Rattle.vt_definitions.specs.Dealing.{sampler_of}
-use Rattle.vt_shared_rows.specs.declared.bag.RowJob.{RowJob}
+use Rattle.vt_schedules.specs.declared.bag.RowJob.{RowJob}
 use Rattle.vt_schedules.specs.Dealt.{AreOwnInPlace}
 use Rattle.vt_schedules.proofs.Dealing.{HasLast}
 use Rattle.vt_schedules.proofs.dealt.deal_rows.Given as goal

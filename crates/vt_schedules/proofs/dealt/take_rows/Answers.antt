@@ -1,6 +1,6 @@
 use Rattle.std.proofs.Common.{◌≡◌, ◌≢◌, ◌<◌, List, [], ◌∷◌, ◌++◌, length, get_or, take, sym, ap, ◌∙◌, rules, arith}
 use Rattle.std.proofs.lemmas.List.{get_or-set_other, take_more}
-use Rattle.vt_shared_rows.specs.declared.bag.RowJob.{RowJob}
+use Rattle.vt_schedules.specs.declared.bag.RowJob.{RowJob}
 use Rattle.vt_schedules.proofs.dealt.take_rows.Goals as goal
 
 pub loop-y-preserved : goal.loop-y-preserved

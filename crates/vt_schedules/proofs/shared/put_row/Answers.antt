@@ -1,6 +1,6 @@
 use Rattle.std.proofs.Common.{[], ◌∷◌, ◌++◌, length, ap, ◌∙◌}
 use Rattle.vt_queue.specs.PassViews.{pass_view}
-use Rattle.vt_shared_rows.specs.Bags.{view_of}
+use Rattle.vt_schedules.specs.Bags.{view_of}
 use Rattle.vt_queue.proofs.OrderLemmas.{puts_last}
 use Rattle.vt_schedules.proofs.shared.put_row.Goals.{in-Ok, in-Err}
 use Rattle.vt_schedules.proofs.shared.put_row.Goals as goal

@@ -4,7 +4,7 @@ use Rattle.vt_queue.specs.declared.views.PassView.{PassView}
 use Rattle.vt_queue.specs.PassViews.{pass_view, all_shares}
 use Rattle.vt_queue.specs.Orders.{placed}
 use Rattle.std.specs.Prelude.{take}
-use Rattle.vt_shared_rows.specs.declared.bag.RowJob.{RowJob}
+use Rattle.vt_schedules.specs.declared.bag.RowJob.{RowJob}
 use Rattle.vt_schedules.proofs.Taking.{put_more}
 use Rattle.vt_schedules.proofs.shared.put_rows.Goals as goal
 

@@ -1,8 +1,8 @@
 use Rattle.std.proofs.Common.{◌≡◌, ℕ, ◌<◌, ◌≤◌, [], length, get_or, take}
 use Rattle.vt_queue.specs.PassViews.{pass_view, all_shares}
 use Rattle.vt_queue.specs.Orders.{placed}
-use Rattle.vt_shared_rows.specs.declared.bag.RowJob.{RowJob}
-use Rattle.vt_shared_rows.specs.Bags.{view_of, IsPassOfBag}
+use Rattle.vt_schedules.specs.declared.bag.RowJob.{RowJob}
+use Rattle.vt_schedules.specs.Bags.{view_of, IsPassOfBag}
 use Rattle.vt_schedules.proofs.shared.put_rows.Given as goal
 
 abbrev pub invariant-loop-y : goal.invariant-loop-y

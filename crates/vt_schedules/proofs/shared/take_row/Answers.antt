@@ -1,4 +1,4 @@
-use Rattle.vt_shared_rows.specs.Bags.{view_of}
+use Rattle.vt_schedules.specs.Bags.{view_of}
 use Rattle.vt_schedules.proofs.Taking.{took_one, took_else, ended_else}
 use Rattle.vt_schedules.proofs.shared.take_row.Goals as goal
 

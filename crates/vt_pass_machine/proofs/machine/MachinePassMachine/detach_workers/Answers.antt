@@ -1,5 +1,5 @@
 use Rattle.std.proofs.Common.{sym, ◌∙◌, refl}
-use Rattle.vt_machine.specs.Jobs.{job_of}
+use Rattle.vt_loading.specs.Jobs.{job_of}
 use Rattle.vt_pass_machine.proofs.Idle.{samplers_may, streamer_may}
 use Rattle.vt_pass_machine.proofs.machine.MachinePassMachine.detach_workers.Goals as goal
 

@@ -1,4 +1,4 @@
-use Rattle.vt_machine.proofs.Ready.{part_is_there}
+use Rattle.vt_loading.proofs.Ready.{part_is_there}
 use Rattle.vt_pass_machine.specs.Machines.{IsIdleBy, IsReadyBy}
 use Rattle.vt_pass_machine.proofs.machine.MachinePassMachine.journal.Goals as goal
 

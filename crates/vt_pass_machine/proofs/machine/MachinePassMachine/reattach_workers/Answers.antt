@@ -1,4 +1,4 @@
-use Rattle.vt_machine.specs.Jobs.{job_of}
+use Rattle.vt_loading.specs.Jobs.{job_of}
 use Rattle.vt_pass_machine.proofs.Finishing.{finished}
 use Rattle.vt_pass_machine.proofs.machine.MachinePassMachine.reattach_workers.Goals as goal
 

@@ -1,6 +1,6 @@
 use Rattle.std.proofs.Common.{◌≡◌, ◌≤◌, ◌∷◌, [], ◌++◌, List, length, get_or, sym, ap, ◌∙◌, subst, arith}
-use Rattle.vt_shared_rows.specs.declared.bag.RowJob.{RowJob}
-use Rattle.vt_shared_rows.proofs.Keepers.{refilled}
+use Rattle.vt_schedules.specs.declared.bag.RowJob.{RowJob}
+use Rattle.vt_schedules.proofs.Keepers.{refilled}
 use Rattle.vt_schedules.specs.declared.dealt.DealtWay.{DealtWay}
 use Rattle.vt_schedules.specs.Dealt.{AreOwnInPlace, AreDealt}
 use Rattle.vt_schedules.proofs.Dealing.{dealt_more}

@@ -1,6 +1,6 @@
 use Rattle.std.proofs.Common.{◌≡◌, ◌+◌, ◌≤◌, arith}
-use Rattle.vt_pages.specs.Pages.{pages_of, root_of}
-use Rattle.vt_pages.proofs.Lines.{reaches_root}
+use Rattle.vt_journal.specs.Pages.{pages_of, root_of}
+use Rattle.vt_journal.proofs.Lines.{reaches_root}
 use Rattle.vt_tests_walks.proofs.pass.stores.root_page.Goals as goal
 
 pub returns-clause-root : goal.returns-clause-root

@@ -1,5 +1,5 @@
 use Rattle.std.proofs.Common.{sym, subst}
-use Rattle.vt_streamer.specs.Views.{StreamerView, IsStreamerOf}
+use Rattle.vt_word_samplers.specs.Views.{StreamerView, IsStreamerOf}
 use Rattle.vt_word_table.specs.WordWriters.{HasTakenMore}
 use Rattle.vt_word_table.specs.WordLaws.{taken_none}
 use Rattle.vt_word_table.proofs.table.WordTablePageTable.reserve.Goals as goal

@@ -1,0 +1,9 @@
+use Rattle.std.proofs.Common.{◌≡◌}
+use Rattle.vt_schedules.specs.Bags.{IsPassOfBag, view_of}
+use Rattle.vt_schedules.proofs.bag.RowBag.wait_empty.Given as goal
+
+abbrev pub invariant-loop : goal.invariant-loop
+invariant-loop g l = record {
+  of : IsPassOfBag l.self l.pass;
+  view : view_of l.pass ≡ view_of l.initial.pass;
+}

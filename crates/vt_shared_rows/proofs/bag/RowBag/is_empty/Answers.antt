@@ -1,5 +1,0 @@
-use Rattle.vt_shared_rows.proofs.Keeping.{finds}
-use Rattle.vt_shared_rows.proofs.bag.RowBag.is_empty.Goals as goal
-
-pub is_empty_as-requires-clause-rule : goal.is_empty_as-requires-clause-rule
-is_empty_as-requires-clause-rule c = finds _ _

@@ -1,5 +1,0 @@
-use Rattle.vt_swap_machine.proofs.Replaying.{said_true}
-use Rattle.vt_swap_machine.proofs.laws.logs_are_true.Goals as goal
-
-pub returns : goal.returns
-returns c log s d b version lawful limits store are = said_true log s d b lawful store are version

@@ -1,5 +1,0 @@
-use Rattle.vt_swap_machine.proofs.Replaying.{picture_replayed}
-use Rattle.vt_swap_machine.proofs.laws.pictures_by_a_log_are_replayed.Goals as goal
-
-pub returns : goal.returns
-returns g c log = picture_replayed g.P.Filter.shown g.P.Filter.under g.met.P.Filter.is_under log
