@@ -26,8 +26,8 @@ use vt_outside::{File, Gate, NoMemory};
 use vt_pages::Geometry;
 use vt_tiles::Stores;
 use vt_word_workers::{
-    Batch, Counts, Crew, Filter, Nearest, PassReport, Queues, Shot, Streamer, WordShared,
-    WordStreamer, WorkerPool, new_parts,
+    Batch, Counts, Crew, Filter, Nearest, PassReport, Queues, Shot, Streamer, WordStreamer,
+    WorkerPool, spare_parts,
 };
 
 /// What a pass over shared words uses, where the caller holds the words and their streamer: the samplers, the
@@ -73,17 +73,10 @@ impl<F: File> PassKit<F> {
         ensures stores { IfOk result (λ k. k.pool.stores ≡ stores.elements) }
         ensures refused { IfErr result (λ e. e.0.elements ≡ stores.elements) }
     {
-        // A tile's side is small, and so one frame is within its limits.
-        let _side = geometry.tile();
-        let (shared, own, asks) = match new_parts::<Nearest>(alloc, geometry, 1, 1) {
+        let (queues, own, asks) = match spare_parts(alloc, geometry) {
             Ok(parts) => parts,
             Err(refusal) => return Err((stores, refusal)),
         };
-        let WordShared {
-            words: _,
-            queues,
-            filter: _,
-        } = shared;
         match WorkerPool::new(alloc, geometry, path, crew, depth, asks, stores) {
             Ok(pool) => Ok(PassKit { queues, own, pool }),
             Err(refused) => Err(refused),

@@ -4,14 +4,12 @@
 mod lent;
 mod parts;
 mod pool;
-mod shared;
 mod tasks;
 mod workers;
 
 pub use lent::LentShared;
-pub use parts::new_parts;
+pub use parts::spare_parts;
 pub use pool::WorkerPool;
-pub use shared::WordShared;
 pub use tasks::stream_own;
 pub use vt_load::{QueuedLoader, Queues};
 pub use vt_loading::{
