@@ -1,6 +1,6 @@
 //! Laws of the rows of a pass: each is the contract of a function that does nothing.
 
-ghost use Rattle.std.specs.Prelude.{ℕ, ◌≤◌, List, length};
+ghost use Rattle.std.specs.Prelude.{◌≤◌, List, length};
 ghost use Rattle.vt_pass_machine.specs.Jobs.{Job};
 ghost use Rattle.vt_pass_machine.specs.PlanTypes.batches.Planned.{Planned};
 ghost use Rattle.vt_pass_machine.specs.JournalTypes.changes.RowLine.{RowLine};
