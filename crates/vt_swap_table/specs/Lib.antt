@@ -1,5 +1,10 @@
+pub use Rattle.vt_swap.specs.LogTypes
+pub use Rattle.vt_swap.specs.Notes
+pub use Rattle.vt_swap.specs.Readers
+pub use Rattle.vt_swap.specs.Streamers
 pub mod Entered
 pub mod SwapReaders
 pub mod SwapWriters
+pub mod Filled
 pub mod LogPrefixes
 pub mod SwapLaws
