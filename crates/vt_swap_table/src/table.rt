@@ -1,6 +1,9 @@
 //! The swapped table as a page table.
 
-ghost use Rattle.std.specs.Prelude.{◌≡◌, ◌*◌};
+ghost use Rattle.std.specs.Prelude.{◌≡◌, ◌*◌, ◌≤◌, IfOk, All, length};
+ghost use Rattle.vt_page_table.specs.Pages.{pages_of};
+ghost use Rattle.vt_swap.specs.Making.{IsNewStreamer, IsNewReader};
+ghost use Rattle.vt_swap.specs.Slots.{AreSlotsOf};
 
 use crate::readers::{join_readers, new_spares, see};
 use std::alloc::Global;
@@ -37,6 +40,25 @@ fn texels_of(geometry: &Geometry) -> u32
 {
     let side = geometry.tile();
     side * side
+}
+
+// A page cache that maps nothing, with as many pages as a texture has, and a reader for each sampler. It may wait.
+fn cache_for<R: Wait>(
+    rt: &R,
+    alloc: Global,
+    geometry: &Geometry,
+    frames: u32,
+    samplers: u32,
+) -> Result<(SwapStreamer, Items<Slot>, Items<TableReader>), NoMemory>
+    requires some { 1 ≤ samplers }
+    ensures streamer { IfOk result (λ made. IsNewStreamer made.0) }
+    ensures slots { IfOk result (λ made. AreSlotsOf made.0.cache made.1.elements) }
+    ensures pages { IfOk result (λ made. made.0.cache.pages ≡ pages_of geometry.now) }
+    ensures frames { IfOk result (λ made. length made.1.elements ≡ frames) }
+    ensures each { IfOk result (λ made. All (IsNewReader made.0.cache) made.2.elements) }
+    ensures readers { IfOk result (λ made. length made.2.elements ≡ samplers) }
+{
+    new_cache(rt, alloc, geometry.page_count(), frames, samplers)
 }
 
 impl PageTable for SwapTable {
@@ -106,7 +128,7 @@ impl PageTable for SwapTable {
         let mut readers = Items::new(alloc);
         readers.reserve(u64::from(samplers))?;
         let mut spares = new_spares(alloc, pages, samplers)?;
-        let (streamer, slots, mut made) = new_cache(rt, alloc, pages, frames, samplers)?;
+        let (streamer, slots, mut made) = cache_for(rt, alloc, geometry, frames, samplers)?;
         join_readers(&mut made, &mut spares, &mut readers, samplers);
         let writer = SwapWriter {
             streamer,
