@@ -41,9 +41,6 @@ module _ (height line : ℕ) (v : PassView RowJob) (whole : v.shares ≡ all_sha
       omega (arith, a, b, c)
 
 -- what a pass has taken so far
-pub rise_none : Rise []
-rise_none i j d low inside = absurd (omega (arith, inside))
-
 pub rise_more : (v w x : PassView RowJob) (got : List (ℕ × RowJob)) (job : RowJob) → Took v got w → Rise got → (t : Takes w job x)
     → Rise (got ++ (t.place, job) ∷ [])
 rise_more v w x got job took rise t =
