@@ -1,10 +1,10 @@
 //! The machines of a walk: each is the one machine over a page table, a schedule and a filter.
 #![tactic(auto)]
 
-use vt_pass_machine::{Dealt, Machine, Shared};
-use vt_plain_bilinear::Bilinear;
-use vt_swap_table::SwapTable;
-use vt_word_table::{Nearest, WordTable};
+pub use vt_pass_machine::{Dealt, Machine, Shared};
+pub use vt_plain_bilinear::Bilinear;
+pub use vt_swap_table::SwapTable;
+pub use vt_word_table::{Nearest, WordTable};
 
 /// The machine over shared words that draws each pixel of one texel, each row by the sampler that it is dealt to.
 pub type WordMachine<F> = Machine<F, WordTable, Dealt, Nearest>;
