@@ -71,8 +71,9 @@ pub trait PageTable {
     /// A writer came to be another by calls that answered.
     ghost later: { Self.Writer → Self.Writer → Type 0 };
 
-    /// Between two views of a writer the reader of a sampler of this number came home, which had come to be this one.
-    ghost came: { Self.Writer → Self.Writer → ℕ → Self.Reader → Type 0 };
+    /// Between two views of a writer the reader of a sampler of this number came home, which had come to be the first of these, and is the
+    /// second one at home.
+    ghost came: { Self.Writer → Self.Writer → ℕ → Self.Reader → Self.Reader → Type 0 };
 
     /// By what a writer and the reader of a sampler of this number know, who is at home, that reader drew at a version.
     ghost was_at: { Self.Writer → ℕ → Self.Reader → ℕ → Type 0 };
@@ -277,7 +278,7 @@ pub trait PageTable {
         ensures later { later writer.old writer.new }
         ensures home { is_home writer.new number reader.new }
         ensures others { (k : ℕ) (r : Self.Reader) → is_home writer.old k r → is_home writer.new k r }
-        ensures came { IsTrue result → came writer.old writer.new number reader.old }
+        ensures came { IsTrue result → came writer.old writer.new number reader.old reader.new }
         ensures known { IsTrue result → (note : Note) → says reader.old note → knows writer.new note }
         ensures at { IsTrue result → (r : Self.Reader) (v : ℕ) → drew r reader.old v → was_at writer.new number reader.new v }
         ensures newest { IsTrue result → (r : Self.Reader) (v : ℕ) → drew r reader.old v → v ≤ length (journal writer.new) }
@@ -310,7 +311,7 @@ pub trait PageTable {
     ghost was_later: { (v w : Self.Writer) (k : ℕ) (r : Self.Reader) (version : ℕ) → later v w → was_at v k r version → was_at w k r version };
 
     /// Who came home came home between views that are farther apart.
-    ghost came_within: { (t u v w : Self.Writer) (k : ℕ) (r : Self.Reader) → later t u → later v w → came u v k r → came t w k r };
+    ghost came_within: { (t u v w : Self.Writer) (k : ℕ) (r q : Self.Reader) → later t u → later v w → came u v k r q → came t w k r q };
 
     /// A reader that may draw and drew nothing.
     ghost rows_none: { (shared : Self.Shared) (s : Shape) (k : ℕ) (r : Self.Reader) → may_draw shared s k r → drew_rows r r [] };

@@ -112,8 +112,8 @@ module _ {F T S P H R W B O M : Type 0} (g : FileMeanings F) (table : TableMeani
   }
 
   -- it was told what was drawn
-  module _ (came_within : (m n v w : W) (number : ℕ) (reader : R) → table.later m n → table.later v w → table.came n v number reader
-      → table.came m w number reader) (later_none : (v : W) → table.later v v) (report : PassReport) (went_on : t.refused ≡ false)
+  module _ (came_within : (m n v w : W) (number : ℕ) (reader home : R) → table.later m n → table.later v w → table.came n v number reader home
+      → table.came m w number reader home) (later_none : (v : W) → table.later v v) (report : PassReport) (went_on : t.refused ≡ false)
       (drawn : HasEnded table filter schedule.DEALT r s job.scene job.picture (length start) t.writer w b.samplers report.rows.elements)
       (sound : IsSound table w) (events : report.events.elements ≡ t.report.events.elements)
       (losses : report.losses.elements ≡ t.report.losses.elements) where
@@ -268,21 +268,25 @@ module _ {F T S P H R W B O M : Type 0} (g : FileMeanings F) (table : TableMeani
     held y line is =
         let x = line_there y line is in
         let its = (drawn.each y x.0 x.1).held in
-        let moved : IsHeldRow table filter r.geometry r.depth b.streamer.writer w b.samplers job.scene.path job.picture y (line_of x.0) x.0.samples.elements =
+        let moved : IsHeldRow table filter r.geometry r.depth b.streamer.writer w b.samplers s.samplers.elements job.scene.path job.picture y (line_of x.0)
+        x.0.samples.elements =
         record {
           was = its.was;
           had = its.had;
+          home = its.home;
+          has = its.has;
           reader = its.reader;
-          came = came_within b.streamer.writer t.writer w w x.0.sampler its.reader streamed.later (later_none w) its.came;
+          came = came_within b.streamer.writer t.writer w w x.0.sampler its.reader its.home.reader streamed.later (later_none w) its.came;
           drew = its.drew;
           drawn = its.drawn;
         } in
-        subst (λ (z : Shape × ℕ × RowLine × List ℕ). IsHeldRow table filter z.0 z.1 b.streamer.writer w b.samplers job.scene.path job.picture y z.2 z.3)
+        subst (λ (z : Shape × ℕ × RowLine × List ℕ).
+        IsHeldRow table filter z.0 z.1 b.streamer.writer w b.samplers s.samplers.elements job.scene.path job.picture y z.2 z.3)
         (λ i. (sym geometry_is i, sym depth_is i, x.2 i, sym (bytes_at s.drawn.elements y x.0 x.1) i)) moved
 
   -- however it ends
-  pub finished : (came_within : (m n v w : W) (number : ℕ) (reader : R) → table.later m n → table.later v w → table.came n v number reader
-      → table.came m w number reader) (later_none : (v : W) → table.later v v) (o : Option (PassStreamer T H R W)) → o ≡ Some u
+  pub finished : (came_within : (m n v w : W) (number : ℕ) (reader home : R) → table.later m n → table.later v w → table.came n v number reader home
+      → table.came m w number reader home) (later_none : (v : W) → table.later v v) (o : Option (PassStreamer T H R W)) → o ≡ Some u
       → (result : Result PassReport NoMemory) → OnOk result (t.refused ≡ false)
       → IfOk result (λ report. (x : Begun F T S H R W B O M) → MayFinish g table schedule filter shared rows q k r job c f t x
       → HasEnded table filter schedule.DEALT r s job.scene job.picture (length (table.journal x.streamer.writer)) t.writer w x.samplers report.rows.elements)

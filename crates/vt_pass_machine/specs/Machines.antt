@@ -135,7 +135,8 @@ abbrev pub held_from : {T S P H R W B O M : Type 0} → TableMeanings T H R W �
     → Option (PassStreamer T H R W) → PassPool T S H R W B O M → Job → List RowLine → Type 0
 held_from table filter v before None r job lines = ⊥
 held_from table filter v before (Some t) r job lines = (y : ℕ) (line : RowLine) → slice_get lines y ≡ Some line
-    → IsHeldRow table filter r.geometry r.depth v t.writer before job.scene.path job.picture y line (slice_index_or (bytes_of r.drawn.elements) y [])
+    → IsHeldRow table filter r.geometry r.depth v t.writer before r.samplers.elements job.scene.path job.picture y line
+    (slice_index_or (bytes_of r.drawn.elements) y [])
 
 -- and of one that began with a streamer that may be out
 abbrev pub held_by : {T S P H R W B O M : Type 0} → TableMeanings T H R W → FilterMeanings P → Option (PassStreamer T H R W)

@@ -250,8 +250,10 @@ module _ {T S P H R W B O M : Type 0} (table : TableMeanings T H R W) (schedule 
             held = record {
               was = by_one.before;
               had = ap (slice_get bs) by_sampler ∙ by_one.there;
+              home = get_or ds r.n r.by;
+              has = ap (slice_get ds) by_sampler ∙ after_there;
               reader = r.by.reader;
-              came = subst (λ (n : ℕ). table.came v w n r.by.reader) (number_at r.n r.by by_one ∙ sym by_sampler) its.came;
+              came = subst (λ (n : ℕ). table.came v w n r.by.reader (get_or ds r.n r.by).reader) (number_at r.n r.by by_one ∙ sym by_sampler) its.came;
               drew = drew_since by_one.before.reader by_one.drawn.first r.by.reader job.version by_one.drawn.entered was_kept.drew;
               drawn = shown;
             };

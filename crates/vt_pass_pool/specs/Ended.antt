@@ -44,14 +44,16 @@ pub record WasDrawn {T S P H R W B O M : Type 0} (table : TableMeanings T H R W)
   pub dealt_to : IsTrue dealt → number ≡ sampler_of y count
   pub at : table.was_at w number by.reader version
 
--- a row came between two views of a writer: the reader that its line's sampler had drew at the line's version and came home meanwhile, and the row was
--- drawn by what that reader says
+-- a row came between two views of a writer and of its samplers: the reader that its line's sampler had drew at the line's version and came home
+-- meanwhile, where that sampler has it, and the row was drawn by what that reader said
 pub record IsHeldRow {T S P H R W B O M : Type 0} (table : TableMeanings T H R W) (filter : FilterMeanings P) (s : Shape) (d : ℕ) (v w : W)
-    (before : List (PassSampler T S H R W B O M)) (path : PathView) (i y : ℕ) (line : RowLine) (bytes : List ℕ) : Type 0 where
+    (before after : List (PassSampler T S H R W B O M)) (path : PathView) (i y : ℕ) (line : RowLine) (bytes : List ℕ) : Type 0 where
   pub was : PassSampler T S H R W B O M
   pub had : slice_get before line.sampler ≡ Some was
+  pub home : PassSampler T S H R W B O M
+  pub has : slice_get after line.sampler ≡ Some home
   pub reader : R
-  pub came : table.came v w line.sampler reader
+  pub came : table.came v w line.sampler reader home.reader
   pub drew : table.drew was.reader reader line.version
   pub drawn : AreShown filter.shown s d line.version (table.says reader) (shot_row s path i y) path.width bytes
 
@@ -63,7 +65,7 @@ pub record IsRowOfPass {T S P H R W B O M : Type 0} (table : TableMeanings T H R
   pub from : start ≤ job.version
   pub to : job.version ≤ length (table.journal w)
   pub drawn : WasDrawn table filter dealt k.geometry k.depth k.count w after scene.path picture y job.version job.samples.elements
-  pub held : IsHeldRow table filter k.geometry k.depth v w before scene.path picture y (line_of job) job.samples.elements
+  pub held : IsHeldRow table filter k.geometry k.depth v w before after scene.path picture y (line_of job) job.samples.elements
 
 -- the samplers are home, the rows that they drew are in their places, and it is told of them and counted what the picture wants
 pub record HasEnded {T S P H R W B O M : Type 0} (table : TableMeanings T H R W) (filter : FilterMeanings P) (dealt : Bool) (k l : PassPool T S H R W B O M)

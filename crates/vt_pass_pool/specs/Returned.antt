@@ -23,7 +23,7 @@ AreOut table schedule shared rows s height samplers = (k : ℕ) (a : _) → slic
 
 -- the reader of a sampler was closed between two views of a writer: it came home, what it said is known, and so are the versions at which it drew
 pub record IsClosed {T S H R W B O M : Type 0} (table : TableMeanings T H R W) (v w : W) (a b : PassSampler T S H R W B O M) : Type 0 where
-  pub came : table.came v w a.number a.reader
+  pub came : table.came v w a.number a.reader b.reader
   pub known : (note : Note) → table.says a.reader note → table.knows w note
   pub at : (r : R) (version : ℕ) → table.drew r a.reader version → table.was_at w a.number b.reader version
   pub newest : (r : R) (version : ℕ) → table.drew r a.reader version → version ≤ length (table.journal w)

@@ -15,6 +15,7 @@ use Rattle.vt_swap.specs.LogTypes.records.LogRecord.{LogRecord}
 use Rattle.vt_swap.specs.LogTypes.records.LogRecord.TheVariants.{Changed, Filled}
 use Rattle.vt_swap.specs.Notes.{AreWordsOf}
 use Rattle.vt_swap.specs.Streamers.{StreamerView, MayBring, HasBrought, victim_changes, victim_records}
+use Rattle.vt_swap_table.specs.Filled.{AreStoredFills}
 use Rattle.vt_swap_table.specs.SwapWriters.{HasFilledPage, HasLogged}
 
 -- a lawful entry may be brought
@@ -89,3 +90,11 @@ one_filled d texels tile o page frame words v w are log fine p ws is =
           let same = only_fill o frame page words new.0 is.frame p ws new.1 in
           let all = subst (AreWordsOf d texels tile) same.1 are in
           inr (same.0, record { count = all.count; each = all.each })
+
+-- the fills of a log, and those of records behind it
+pub fills_grow : (s : Shape) (d : ℕ) (known : Option (List ℕ)) (rs ss : List LogRecord) → AreStoredFills s d known rs → AreStoredFills s d known ss
+    → AreStoredFills s d known (rs ++ ss)
+fills_grow s d known [] ss old new n frame page words is = new n frame page words is
+fills_grow s d known (r ∷ rs) ss old new zero frame page words is = old zero frame page words is
+fills_grow s d known (r ∷ rs) ss old new (suc n) frame page words is =
+    fills_grow s d known rs ss (λ k f p w at. old (suc k) f p w at) new n frame page words is

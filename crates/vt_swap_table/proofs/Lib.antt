@@ -1,3 +1,4 @@
 mod Making
 mod Filling
+mod Replaying
 mod Knowing

@@ -1,5 +1,6 @@
 pub mod Entered
 pub mod SwapReaders
 pub mod SwapWriters
+pub mod Filled
 pub mod LogPrefixes
 pub mod SwapLaws

@@ -14,7 +14,7 @@ use Rattle.vt_swap_table.specs.LogPrefixes.{said_on, entered_none, all_behind, k
 use Rattle.vt_swap_table.specs.declared.table.SwapReader.{SwapReader}
 use Rattle.vt_swap_table.specs.Entered.{WasEnteredBetween, HasEnteredRows}
 use Rattle.vt_swap_table.specs.SwapReaders.{MayReaderDraw, HasSeen, HasSeenStart, OfReaders, EnteredRow, EnteredRows, EnteredAt, IsSaidIf}
-use Rattle.vt_swap_table.specs.SwapWriters.{HasLogged, IsKnownIf, WasEnteredBy}
+use Rattle.vt_swap_table.specs.SwapWriters.{HasLogged, IsKnownIf, HasComeHome, WasEnteredBy}
 
 pub fewer_changes : (made m n : ℕ) → n ≤ m → made + m ≤ most_versions → made + n ≤ most_versions
 fewer_changes made m n less room = omega (arith, less, room)
@@ -31,9 +31,12 @@ said_later v w note more said = said_on v.log w.log note more.log said
 pub entered_by_later : (v w : StreamerView) (a : SwapReader) (version : ℕ) → HasLogged v w → WasEnteredBy v a version → WasEnteredBy w a version
 entered_by_later v w a version more was = record { reader = was.reader; has = was.has; of = was.of ∙ sym more.cache; entered = was.entered }
 
-pub known_within : (v w : StreamerView) (o : Option ReaderView) → HasLogged v w → IsKnownIf v o → IsKnownIf w o
+known_within : (v w : StreamerView) (o : Option ReaderView) → HasLogged v w → IsKnownIf v o → IsKnownIf w o
 known_within v w None more known = absurd known
 known_within v w (Some r) more known = (known.0 ∙ sym more.cache, prefix_trans r.log v.log w.log known.1 more.log)
+
+pub home_within : (v w : StreamerView) (o home : Option ReaderView) → HasLogged v w → HasComeHome v o home → HasComeHome w o home
+home_within v w o home more came = record { known = known_within v w o more came.known; same = came.same }
 
 -- a reader that entered more, and then more
 pub entered_more : (r q s : ReaderView) (more then : List ℕ) → HasEnteredMore r q more → HasEnteredMore q s then → HasEnteredMore r s (then ++ more)

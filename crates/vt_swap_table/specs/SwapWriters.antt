@@ -32,6 +32,11 @@ abbrev pub IsKnownIf : StreamerView → Option ReaderView → Type 0
 IsKnownIf v None = ⊥
 IsKnownIf v (Some r) = (r.cache ≡ v.cache) × IsPrefix r.log v.log
 
+-- and it is the same one at home
+pub record HasComeHome (v : StreamerView) (o home : Option ReaderView) : Type 0 where
+  pub known : IsKnownIf v o
+  pub same : home ≡ o
+
 -- a reader of a writer's table entered a version
 pub record WasEnteredBy (v : StreamerView) (a : SwapReader) (version : ℕ) : Type 0 where
   pub reader : ReaderView

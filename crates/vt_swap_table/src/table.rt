@@ -44,8 +44,8 @@ impl PageTable for SwapTable {
     ghost use Rattle.vt_definitions.specs.Limits.{most_versions};
     ghost use Rattle.vt_swap.specs.Notes.{IsSaidBy};
     ghost use Rattle.vt_swap_table.specs.SwapReaders.{IsReaderAtHome, IsReaderOpen, MayReaderDraw, IsSaidIf, HasSeenStart, EnteredRow, EnteredRows, EnteredAt};
-    ghost use Rattle.vt_swap_table.specs.SwapWriters.{AreSlotsFor, HasFilledPage, HasLogged, IsKnownIf, WasEnteredBy};
-    ghost use Rattle.vt_swap_table.specs.SwapLaws.{fewer_changes, logged_none, logged_twice, said_later, entered_by_later, known_within, rows_none_of, rows_more_of, entered_now_of, entered_then_of, entered_since_of, rises_of, said_more_of};
+    ghost use Rattle.vt_swap_table.specs.SwapWriters.{AreSlotsFor, HasFilledPage, HasLogged, HasComeHome, WasEnteredBy};
+    ghost use Rattle.vt_swap_table.specs.SwapLaws.{fewer_changes, logged_none, logged_twice, said_later, entered_by_later, home_within, rows_none_of, rows_more_of, entered_now_of, entered_then_of, entered_since_of, rises_of, said_more_of};
 
     type Shared = Items<Slot>;
 
@@ -71,7 +71,7 @@ impl PageTable for SwapTable {
 
     ghost later = { λ v w. HasLogged v.streamer w.streamer };
 
-    ghost came = { λ v w k r. IsKnownIf w.streamer r.reader };
+    ghost came = { λ v w k r q. HasComeHome w.streamer r.reader q.reader };
 
     ghost was_at = { λ w k r version. WasEnteredBy w.streamer r version };
 
@@ -245,7 +245,7 @@ impl PageTable for SwapTable {
 
     ghost was_later = { λ v w k r version one was. entered_by_later v.streamer w.streamer r version one was };
 
-    ghost came_within = { λ t u v w k r one two came. known_within v.streamer w.streamer r.reader two came };
+    ghost came_within = { λ t u v w k r q one two came. home_within v.streamer w.streamer r.reader q.reader two came };
 
     ghost rows_none = { λ slots s k r may. rows_none_of slots.elements s r may };
 

@@ -181,4 +181,5 @@ not_later w number version sound back =
 -- what was held between two views of a pass is among what it held
 pub held_among : (o : Option PassValue) (p : PassValue) (version : ℕ) → HeldAt o (Some p) version → Contains p.view.held version
 held_among None p version was = absurd was
-held_among (Some q) p version was = subst (λ (l : List ℕ). Contains l version) (sym was.held) (Contains-append_left was.more q.view.held version was.among)
+held_among (Some q) p version was = subst (λ (l : List ℕ). Contains l version) (sym was.held.held)
+    (Contains-append_left was.held.more q.view.held version was.held.among)

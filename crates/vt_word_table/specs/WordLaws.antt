@@ -84,13 +84,19 @@ pub held_now_if : (o p q : Option PassValue) (versions : List ℕ) (v : ℕ) →
 held_now_if None p q versions v one two = absurd one
 held_now_if (Some a) None q versions v one two = absurd one
 held_now_if (Some a) (Some b) None versions v one two = absurd two
-held_now_if (Some a) (Some b) (Some c) versions v one two = was_held_now a.view b.view c.view versions v one two.more two.since two.later
+held_now_if (Some a) (Some b) (Some c) versions v one two = record {
+  held = was_held_now a.view b.view c.view versions v one two.more two.since two.later;
+  given = ap (λ (x : PassView). x.given) two.more.rest ∙ ap (λ (x : PassView). x.given) one.rest;
+}
 
 pub held_then_if : (o p q : Option PassValue) (u v : ℕ) → HeldAt o p u → HeldRow p q v → HeldAt o q u
 held_then_if None p q u v one two = absurd one
 held_then_if (Some a) None q u v one two = absurd one
 held_then_if (Some a) (Some b) None u v one two = absurd two
-held_then_if (Some a) (Some b) (Some c) u v one two = was_held_then a.view b.view c.view u v two.more one
+held_then_if (Some a) (Some b) (Some c) u v one two = record {
+  held = was_held_then a.view b.view c.view u v two.more one.held;
+  given = ap (λ (x : PassView). x.given) two.more.rest ∙ one.given;
+}
 
 pub held_since_if : (o p q : Option PassValue) (v : ℕ) → EnteredWith o p → HeldAt p q v → HeldAt o q v
 held_since_if o p q v same at = subst (λ (x : Option PassValue). HeldAt x q v) same at
@@ -99,7 +105,7 @@ pub held_rises_if : (o p q : Option PassValue) (u v : ℕ) → HeldAt o p u → 
 held_rises_if None p q u v one two = absurd one
 held_rises_if (Some a) None q u v one two = absurd one
 held_rises_if (Some a) (Some b) None u v one two = absurd two
-held_rises_if (Some a) (Some b) (Some c) u v one two = not_above a.view b.view u v two.later one
+held_rises_if (Some a) (Some b) (Some c) u v one two = not_above a.view b.view u v two.later one.held
 
 pub since_if : (p q : Option PassValue) (v : ℕ) → HeldRow p q v → given_of p ≤ v
 since_if None q v one = absurd one

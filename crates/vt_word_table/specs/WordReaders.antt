@@ -45,8 +45,13 @@ HeldRow o q version = OfPasses (λ a b. HoldsRow a b version) o q
 abbrev pub HeldRows : Option PassValue → Option PassValue → List ℕ → Type 0
 HeldRows o q versions = OfPasses (λ a b. HasHeldMore a b versions) o q
 
+-- a version was held between two views of a pass, which was not given anew meanwhile
+pub record HeldSince (p q : PassView) (version : ℕ) : Type 0 where
+  pub held : WasHeld p q version
+  pub given : q.given ≡ p.given
+
 abbrev pub HeldAt : Option PassValue → Option PassValue → ℕ → Type 0
-HeldAt o q version = OfPasses (λ a b. WasHeld a b version) o q
+HeldAt o q version = OfPasses (λ a b. HeldSince a b version) o q
 
 -- there is nothing to enter
 abbrev pub EnteredWith : Option PassValue → Option PassValue → Type 0

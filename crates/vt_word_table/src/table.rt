@@ -54,7 +54,7 @@ impl PageTable for WordTable {
 
     ghost later = { λ v w. HasTakenMore v.writer w.writer };
 
-    ghost came = { λ v w k r. CameHomeIf v.writer w.writer k r.pass };
+    ghost came = { λ v w k r q. CameHomeIf v.writer w.writer k r.pass };
 
     ghost was_at = { λ w k r version. WasBack w.writer k version };
 
@@ -186,7 +186,7 @@ impl PageTable for WordTable {
 
     ghost was_later = { λ v w k r version one was. back_later v.writer w.writer k version one was };
 
-    ghost came_within = { λ t u v w k r one two came. came_within t.writer u.writer v.writer w.writer k r.pass one two came };
+    ghost came_within = { λ t u v w k r q one two came. came_within t.writer u.writer v.writer w.writer k r.pass one two came };
 
     ghost rows_none = { λ words s k r may. rows_none_if words s k r.pass may };
 

@@ -1,4 +1,4 @@
-use Rattle.std.proofs.Common.{Option, sym, ◌∙◌, subst}
+use Rattle.std.proofs.Common.{Option, refl, sym, ◌∙◌, subst}
 use mathlib.Core.List.{IsPrefix}
 use Rattle.vt_swap.specs.Readers.{ReaderView}
 use Rattle.vt_swap_table.specs.Entered.{WasEnteredBetween}
@@ -23,14 +23,17 @@ returns-then-not-is_broken-clause-home c = record {
 pub returns-then-not-is_broken-clause-came : goal.returns-then-not-is_broken-clause-came
 returns-then-not-is_broken-clause-came c sure =
     let v = c.args.writer.now.streamer in let own = c.in-Some.own in
-    subst (IsKnownIf v) (sym c.in-Some.is) (
-      own_cache c.args._slots.now.elements c.args.writer.now.geometry c.args.reader.now v own c.requires.may c.requires.of c.in-Some.is,
-      if_true (IsPrefix own.log v.log) (IsPrefix v.log own.log) c.is_known_to.result sure c.is_known_to.ensures,
-    )
+    record {
+      known = subst (IsKnownIf v) (sym c.in-Some.is) (
+        own_cache c.args._slots.now.elements c.args.writer.now.geometry c.args.reader.now v own c.requires.may c.requires.of c.in-Some.is,
+        if_true (IsPrefix own.log v.log) (IsPrefix v.log own.log) c.is_known_to.result sure c.is_known_to.ensures,
+      );
+      same = refl;
+    }
 
 pub returns-then-not-is_broken-clause-known : goal.returns-then-not-is_broken-clause-known
 returns-then-not-is_broken-clause-known c sure note said =
-    said_known c.args.writer.now.streamer c.args.reader.now.reader note (returns-then-not-is_broken-clause-came c sure) said
+    said_known c.args.writer.now.streamer c.args.reader.now.reader note (returns-then-not-is_broken-clause-came c sure).known said
 
 pub returns-then-not-is_broken-clause-at : goal.returns-then-not-is_broken-clause-at
 returns-then-not-is_broken-clause-at c sure r v was = record {
