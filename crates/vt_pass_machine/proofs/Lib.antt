@@ -1,3 +1,4 @@
+pub use Rattle.vt_pass_pool.proofs.Handed
 mod Listed
 mod Fills
 mod Replaying

@@ -5,4 +5,6 @@ mod machine;
 mod passes;
 
 pub use machine::Machine;
-pub use vt_pass_pool::{Dealt, PassShared, PassStreamer, Shared};
+pub use vt_loading::PassMachine;
+pub use vt_outside::File;
+pub use vt_pass_pool::{Dealt, Filter, PassShared, PassStreamer, Schedule, Shared};

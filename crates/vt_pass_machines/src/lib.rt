@@ -1,6 +1,9 @@
 //! The machines of a walk: each is the one machine over a page table, a schedule and a filter.
 #![tactic(auto)]
 
+mod laws;
+
+pub use laws::{rows_of_a_swapped_table_were_entered, rows_of_words_were_held};
 pub use vt_pass_machine::{Dealt, Machine, Shared};
 pub use vt_plain_bilinear::Bilinear;
 pub use vt_swap_table::SwapTable;

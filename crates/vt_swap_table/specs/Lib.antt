@@ -1,3 +1,7 @@
+pub use Rattle.vt_swap.specs.LogTypes
+pub use Rattle.vt_swap.specs.Notes
+pub use Rattle.vt_swap.specs.Readers
+pub use Rattle.vt_swap.specs.Streamers
 pub mod Entered
 pub mod SwapReaders
 pub mod SwapWriters
