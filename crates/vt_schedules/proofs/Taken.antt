@@ -1,5 +1,5 @@
 -- What passes of a bag took is what was put.
-use Rattle.std.proofs.Common.{subst, ◌≡◌, ℕ, ◌+◌, ◌<◌, List, [], ◌∷◌, ◌++◌, get_or, ap, sym, arith}
+use Rattle.std.proofs.Common.{subst, ◌≡◌, ℕ, ◌<◌, List, [], ◌∷◌, ◌++◌, get_or, ap, sym, arith}
 use Rattle.std.specs.Prelude.{IsPermutation, All, Contains, AllPairs}
 use Rattle.std.specs.List.{range_with_len}
 use Rattle.std.proofs.lemmas.List.{map-append}
@@ -41,9 +41,6 @@ module _ (height line : ℕ) (v : PassView RowJob) (whole : v.shares ≡ all_sha
       omega (arith, a, b, c)
 
 -- what a pass has taken so far
-pub rise_none : Rise []
-rise_none i j d low inside = absurd (omega (arith, inside))
-
 pub rise_more : (v w x : PassView RowJob) (got : List (ℕ × RowJob)) (job : RowJob) → Took v got w → Rise got → (t : Takes w job x)
     → Rise (got ++ (t.place, job) ∷ [])
 rise_more v w x got job took rise t =

@@ -1,5 +1,5 @@
 -- The laws of passes that take rows from a bag.
-use Rattle.std.proofs.Common.{ℕ, ◌≤◌, inl, inr, Option, None, Some, List, [], length, refl, sym, ap, subst}
+use Rattle.std.proofs.Common.{ℕ, ◌≤◌, inl, inr, Option, None, Some, List, [], length, refl, sym, ap, subst, arith}
 use Rattle.vt_queue.specs.declared.views.PassView.{PassView}
 use Rattle.vt_queue.specs.PassViews.{pass_view}
 use Rattle.vt_queue.proofs.Gathered.{append_nil}
@@ -7,12 +7,15 @@ use Rattle.vt_schedules.specs.declared.bag.RowJob.{RowJob}
 use Rattle.vt_schedules.specs.declared.bag.RowBag.{RowBag}
 use Rattle.vt_schedules.specs.declared.bag.BagPass.{BagPass}
 use Rattle.vt_schedules.specs.Bags.{view_of}
-use Rattle.vt_schedules.proofs.Taken.{rise_none}
+use Rattle.vt_schedules.specs.SharedRows.{Rise}
 use Rattle.vt_schedules.specs.declared.shared.BagWay.{BagWay}
 use Rattle.vt_schedules.specs.Sharing.{HasBagPass, TookRows, TookWay, EndedWay, AreSplit, AreBack}
 
 pub none_back : (height line : ℕ) (firsts : List BagWay) (home : BagPass) → AreSplit height line firsts home → AreBack height line firsts [] home
 none_back height line firsts home split = record { left = view_of home; shared = split; joined_are = refl }
+
+rise_none : Rise []
+rise_none i j d low inside = absurd (omega (arith, inside))
 
 pub took_rows_none : (height line : ℕ) (v : PassView RowJob) → TookRows height line v v []
 took_rows_none height line v = record {
