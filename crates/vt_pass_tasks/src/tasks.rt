@@ -18,6 +18,9 @@ where
     T::Shared: Sync,
     S::Shared: Sync,
 {
+    // Where samplers share rows, so that a sampler whose row is slow holds up no other.
+    const ALONE: bool = !S::DEALT;
+
     ghost ready = { λ shared job a. MayDraw T.PageTable S.Schedule shared.table shared.rows job.scene.shape job.scene.depth job.scene.path
         job.picture a };
 

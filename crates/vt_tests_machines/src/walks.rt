@@ -1,4 +1,4 @@
-//! Walks by the machine whose samplers share rows, by the one over a swapped page table and by those over shared words, over a store in memory.
+//! Walks by each machine, over either page table, whose rows are dealt or shared, by either filter, over a store in memory.
 
 ghost use Rattle.std.specs.Prelude.{◌≡◌, [], ◌∷◌, is_some};
 ghost use Rattle.std.specs.Bool.{OnTrue};
@@ -13,10 +13,10 @@ use std::alloc::Global;
 use std::process::Abort;
 use std::sync::Wait;
 use std::thread::Threads;
-use vt_bilinear::{BlendMachine, StealMachine, SwapMachine, WordMachine};
 use vt_camera::{Path, parse_path};
 use vt_machine::{Crew, PassMachine};
 use vt_outside::{Fails, Folder, Gate, MemoryFile, MemoryFolder, MemorySink, OpenGate};
+use vt_pass_machines::{Bilinear, Dealt, Machine, Nearest, Shared, SwapTable, WordTable};
 use vt_tiles::{Geometry, Store};
 use vt_walk::{Names, Settings, walk_with};
 
@@ -40,13 +40,8 @@ struct Case<'a> {
     picture: &'a [u8],
 }
 
-type Steal = StealMachine<MemoryFile>;
-
-type Swap = SwapMachine<MemoryFile>;
-
-type Dealt = WordMachine<MemoryFile>;
-
-type Blend = BlendMachine<MemoryFile>;
+// The machine over a page table, a schedule and a filter.
+type By<T, S, P> = Machine<MemoryFile, T, S, P>;
 
 // Opens the store of a folder, after its path, as the program does.
 fn open_after_path<D: Folder>(rt: &impl Abort, folder: &mut D, name: &str) -> Store<D::File>
@@ -215,12 +210,14 @@ fn comes_by_any_crew<Rt: Abort + Threads + Wait + Sync, M: PassMachine<File = Me
 
 #[test]
 fn a_settled_picture_is_the_same_by_any_number_of_samplers(rt: HostRuntime) {
-    assert!(&rt; comes_by_any_crew::<HostRuntime, Steal>(&rt, rt.alloc()));
+    assert!(&rt; comes_by_any_crew::<HostRuntime, By<WordTable, Dealt, Nearest>>(&rt, rt.alloc()));
+    assert!(&rt; comes_by_any_crew::<HostRuntime, By<WordTable, Shared, Nearest>>(&rt, rt.alloc()));
 }
 
 #[test]
 fn a_settled_picture_is_the_same_over_a_swapped_table(rt: HostRuntime) {
-    assert!(&rt; comes_by_any_crew::<HostRuntime, Swap>(&rt, rt.alloc()));
+    assert!(&rt; comes_by_any_crew::<HostRuntime, By<SwapTable, Dealt, Nearest>>(&rt, rt.alloc()));
+    assert!(&rt; comes_by_any_crew::<HostRuntime, By<SwapTable, Shared, Nearest>>(&rt, rt.alloc()));
 }
 
 // The journal of the next walk.
@@ -256,15 +253,22 @@ fn has_one_and_three(folder: &MemoryFolder) -> bool {
     }
 }
 
+// Whether a sampler of a machine draws three rows of a picture while another waits in its first.
+fn outruns<Rt: Abort + Threads + Wait + Sync, M: PassMachine<File = MemoryFile> + Send>(
+    rt: &Rt,
+    alloc: Global,
+) -> bool {
+    let gate = FirstAndLater::new(4);
+    let mut folder = MemoryFolder::new(alloc, Fails::new(alloc));
+    comes::<Rt, M, FirstAndLater>(rt, alloc, &mut folder, &FOUR_ROWS, &gate)
+        && has_one_and_three(&folder)
+        && gate.came()
+}
+
 #[test]
 fn a_sampler_draws_three_rows_while_another_waits(rt: HostRuntime) {
-    let gate = FirstAndLater::new(4);
-    let mut folder = MemoryFolder::new(rt.alloc(), Fails::new(rt.alloc()));
-    assert!(&rt;
-        comes::<HostRuntime, Steal, FirstAndLater>(&rt, rt.alloc(), &mut folder, &FOUR_ROWS, &gate)
-    );
-    assert!(&rt; has_one_and_three(&folder));
-    assert!(&rt; gate.came());
+    assert!(&rt; outruns::<HostRuntime, By<WordTable, Shared, Nearest>>(&rt, rt.alloc()));
+    assert!(&rt; outruns::<HostRuntime, By<SwapTable, Shared, Nearest>>(&rt, rt.alloc()));
 }
 
 const HEADER: &[u8] = b"P6\n128 128\n255\n";
@@ -314,11 +318,30 @@ fn meets<Rt: Abort + Threads + Wait + Sync, M: PassMachine<File = MemoryFile> + 
 
 #[test]
 fn a_sampler_enters_the_swapped_table_while_another_has(rt: HostRuntime) {
-    assert!(&rt; meets::<HostRuntime, Swap>(&rt, rt.alloc(), &ONE_TEXEL, 5));
+    assert!(&rt;
+        meets::<HostRuntime, By<SwapTable, Dealt, Nearest>>(&rt, rt.alloc(), &ONE_TEXEL, 5)
+    );
 }
 
 #[test]
 fn a_sampler_of_the_shared_words_draws_a_row_while_another_does(rt: HostRuntime) {
-    assert!(&rt; meets::<HostRuntime, Dealt>(&rt, rt.alloc(), &ONE_TEXEL, 5));
-    assert!(&rt; meets::<HostRuntime, Blend>(&rt, rt.alloc(), &ONE_BLEND, 1));
+    assert!(&rt;
+        meets::<HostRuntime, By<WordTable, Dealt, Nearest>>(&rt, rt.alloc(), &ONE_TEXEL, 5)
+    );
+}
+
+#[test]
+fn a_sampler_blends_a_row_while_another_does(rt: HostRuntime) {
+    assert!(&rt;
+        meets::<HostRuntime, By<WordTable, Dealt, Bilinear>>(&rt, rt.alloc(), &ONE_BLEND, 1)
+    );
+    assert!(&rt;
+        meets::<HostRuntime, By<WordTable, Shared, Bilinear>>(&rt, rt.alloc(), &ONE_BLEND, 1)
+    );
+    assert!(&rt;
+        meets::<HostRuntime, By<SwapTable, Dealt, Bilinear>>(&rt, rt.alloc(), &ONE_BLEND, 1)
+    );
+    assert!(&rt;
+        meets::<HostRuntime, By<SwapTable, Shared, Bilinear>>(&rt, rt.alloc(), &ONE_BLEND, 1)
+    );
 }
