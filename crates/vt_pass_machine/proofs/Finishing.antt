@@ -41,7 +41,7 @@ use Rattle.vt_pass_pool.specs.declared.pool.PassPool.{PassPool}
 use Rattle.vt_pass_pool.specs.Placing.{line_of, bytes_of}
 use Rattle.vt_pass_pool.specs.Stills.{IsStill}
 use Rattle.vt_pass_pool.specs.Ended.{WasDrawn, IsHeldRow, HasEnded}
-use Rattle.vt_pass_pool.specs.PassTasksTypes.shared.PassStreamer.{PassStreamer}
+use Rattle.vt_pass_pool.specs.declared.shared.PassStreamer.{PassStreamer}
 use Rattle.vt_pass_machine.specs.Machines.{state_by, drawing_by_turns, drawn_by, held_from, IsSound, Agree, IsIdle, IsIdleBy, Begun, MayFinish, journal_by, frames_by}
 use Rattle.vt_pass_machine.proofs.Listed.{made_of, bytes_at}
 use Rattle.vt_pass_machine.proofs.Fills.{results_stored}

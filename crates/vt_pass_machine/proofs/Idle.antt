@@ -30,7 +30,7 @@ use Rattle.vt_pass_pool.specs.PassRowsTypes.sampler.PassSampler.{PassSampler}
 use Rattle.vt_pass_pool.specs.PassSamplers.{MayDraw}
 use Rattle.vt_pass_pool.specs.declared.pool.PassPool.{PassPool}
 use Rattle.vt_pass_pool.specs.Pools.{IsIdlePool}
-use Rattle.vt_pass_pool.specs.PassTasksTypes.shared.PassStreamer.{PassStreamer}
+use Rattle.vt_pass_pool.specs.declared.shared.PassStreamer.{PassStreamer}
 use Rattle.vt_pass_pool.specs.PassTasks.{MayStream}
 use Rattle.vt_pass_machine.specs.declared.machine.Machine.{Machine}
 use Rattle.vt_pass_machine.specs.Machines.{setup_by, state_by, state_of, journal_by, frames_by, IsIdle, IsIdleBy, IsReady, IsReadyBy, HasPlaced}

@@ -7,7 +7,7 @@ use Rattle.vt_pass_pool.specs.JournalTypes.changes.Change.{Change}
 use Rattle.vt_pass_pool.specs.PageTableTypes.table.PageTable.{Ghosts as TableMeanings}
 use Rattle.vt_pass_pool.specs.Fills.{AreTexelWords, FillsOne}
 use Rattle.vt_pass_pool.specs.Stills.{IsStill}
-use Rattle.vt_pass_pool.specs.PassTasksTypes.shared.PassStreamer.{PassStreamer}
+use Rattle.vt_pass_pool.specs.declared.shared.PassStreamer.{PassStreamer}
 use Rattle.vt_pass_machine.specs.Machines.{HasPlaced}
 
 module _ {T H R W : Type 0} (table : TableMeanings T H R W) (shared : H) (page : ℕ) (tile : List ℕ) (t : PassStreamer T H R W) (w : W)

@@ -18,7 +18,7 @@ use Rattle.vt_pass_pool.specs.SchedulesTypes.schedule.Schedule.{Ghosts as Schedu
 use Rattle.vt_pass_pool.specs.declared.pool.PassPool.{PassPool}
 use Rattle.vt_pass_pool.specs.Pools.{IsIdlePool, IsReadyPool}
 use Rattle.vt_pass_pool.specs.Stills.{IsStill}
-use Rattle.vt_pass_pool.specs.PassTasksTypes.shared.PassStreamer.{PassStreamer}
+use Rattle.vt_pass_pool.specs.declared.shared.PassStreamer.{PassStreamer}
 use Rattle.vt_pass_machine.specs.Machines.{IsIdle, IsReady}
 
 -- a pool whose readers are at home for a writer stays so

@@ -23,8 +23,8 @@ use Rattle.vt_pass_pool.specs.PassSamplers.{HasDrawn}
 use Rattle.vt_pass_pool.specs.declared.pool.PassPool.{PassPool}
 use Rattle.vt_pass_pool.specs.Pools.{IsReadyPool}
 use Rattle.vt_pass_pool.specs.Ended.{MayEnd}
-use Rattle.vt_pass_pool.specs.PassTasksTypes.shared.PassShared.{PassShared}
-use Rattle.vt_pass_pool.specs.PassTasksTypes.shared.PassStreamer.{PassStreamer}
+use Rattle.vt_pass_pool.specs.declared.shared.PassShared.{PassShared}
+use Rattle.vt_pass_pool.specs.declared.shared.PassStreamer.{PassStreamer}
 use Rattle.vt_pass_pool.specs.PassTasks.{HasStreamed}
 use Rattle.vt_pass_machine.specs.declared.machine.Machine.{Machine}
 use Rattle.vt_pass_machine.specs.Machines.{setup_by, state_by, state_of, journal_by, frames_by, drawing_by_turns, drawn_by, held_from, held_by, IsFit, IsReady, IsReadyBy, IsIdleBy, IsDetached, Begun, MayFinish, MayFinishOut, PassEnds, Finishes}

@@ -9,7 +9,6 @@ pub use Rattle.vt_pass_pool.specs.Evidence
 pub use Rattle.vt_pass_pool.specs.JournalTypes
 pub use Rattle.vt_pass_pool.specs.PageTableTypes
 pub use Rattle.vt_pass_pool.specs.PassRowsTypes
-pub use Rattle.vt_pass_pool.specs.PassTasksTypes
 pub use Rattle.vt_pass_pool.specs.Paths
 pub use Rattle.vt_pass_pool.specs.PicturesTypes
 pub use Rattle.vt_pass_pool.specs.Placing

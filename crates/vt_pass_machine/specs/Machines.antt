@@ -29,7 +29,7 @@ use Rattle.vt_pass_pool.specs.PassRowsTypes.sampler.PassSampler.{PassSampler}
 use Rattle.vt_pass_pool.specs.Placing.{bytes_of}
 use Rattle.vt_pass_pool.specs.Pools.{IsIdlePool, IsReadyPool}
 use Rattle.vt_pass_pool.specs.Ended.{MayEnd, WasDrawn, IsHeldRow}
-use Rattle.vt_pass_pool.specs.PassTasksTypes.shared.PassStreamer.{PassStreamer}
+use Rattle.vt_pass_pool.specs.declared.shared.PassStreamer.{PassStreamer}
 use Rattle.vt_pass_pool.specs.PassTasks.{HasStreamed}
 use Rattle.vt_pass_machine.specs.declared.machine.Machine.{Machine}
 

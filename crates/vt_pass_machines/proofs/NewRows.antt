@@ -18,7 +18,7 @@ use Rattle.vt_pass_machine.specs.PageTableTypes.table.PageTable.{Ghosts as Table
 use Rattle.vt_pass_machine.specs.SchedulesTypes.schedule.Schedule.{Ghosts as ScheduleMeanings}
 use Rattle.vt_pass_machine.specs.PassRowsTypes.sampler.PassSampler.{PassSampler}
 use Rattle.vt_pass_machine.specs.PassPoolTypes.pool.PassPool.{PassPool}
-use Rattle.vt_pass_machine.specs.PassTasksTypes.shared.PassStreamer.{PassStreamer}
+use Rattle.vt_pass_machine.specs.PassPoolTypes.shared.PassStreamer.{PassStreamer}
 use Rattle.vt_pass_machine.specs.Placing.{bytes_of}
 use Rattle.vt_pass_machine.specs.Ended.{IsHeldRow}
 use Rattle.vt_pass_machine.specs.Machines.{IsReadyBy, held_from, held_by}

@@ -7,7 +7,7 @@ use Rattle.vt_pass_machine.specs.Evidence.{AreShown}
 use Rattle.vt_pass_machine.specs.JournalTypes.changes.RowLine.{RowLine}
 use Rattle.vt_pass_machine.specs.PicturesTypes.filters.Filter.{Ghosts as FilterMeanings}
 use Rattle.vt_pass_machine.specs.PassRowsTypes.sampler.PassSampler.{PassSampler}
-use Rattle.vt_pass_machine.specs.PassTasksTypes.shared.PassStreamer.{PassStreamer}
+use Rattle.vt_pass_machine.specs.PassPoolTypes.shared.PassStreamer.{PassStreamer}
 use Rattle.vt_word_table.specs.GraceTypes.views.Returned.{Returned}
 use Rattle.vt_word_table.specs.GraceTypes.views.WriterView.{WriterView}
 use Rattle.vt_word_table.specs.WriterViews.{version_of}

@@ -10,25 +10,25 @@ use Rattle.std.proofs.lemmas.Option.{same_Some, slice_get_within, slice_get-get_
 use Rattle.vt_definitions.specs.Dealing.{sampler_of}
 use Rattle.vt_journal.specs.Shape.{Shape}
 use Rattle.vt_journal.specs.Pages.{pages_of}
-use Rattle.vt_pass_tasks.specs.Paths.{PathView, ArePictureSides}
-use Rattle.vt_pass_tasks.specs.Rows.{RowView}
-use Rattle.vt_pass_tasks.specs.Shots.{shot_row, wants_in_rows}
-use Rattle.vt_pass_tasks.specs.Scenes.{Scene}
+use Rattle.vt_pass_rows.specs.Paths.{PathView, ArePictureSides}
+use Rattle.vt_pass_rows.specs.Rows.{RowView}
+use Rattle.vt_pass_rows.specs.Shots.{shot_row, wants_in_rows}
+use Rattle.vt_pass_rows.specs.Scenes.{Scene}
 use Rattle.vt_journal.specs.declared.changes.RowLine.{RowLine}
-use Rattle.vt_pass_tasks.specs.PicturesTypes.filters.Filter.{Ghosts as FilterMeanings}
-use Rattle.vt_pass_tasks.specs.FilterLaws.{WantsFew, picture_wants}
-use Rattle.vt_pass_tasks.specs.Evidence.{AreShown}
-use Rattle.vt_pass_tasks.proofs.Handed.{shown_by_more}
-use Rattle.vt_pass_tasks.specs.Samplers.{row_length}
-use Rattle.vt_pass_tasks.proofs.Sharing.{picture_few}
-use Rattle.vt_pass_tasks.specs.PageTableTypes.table.PageTable.{Ghosts as TableMeanings}
-use Rattle.vt_pass_tasks.specs.SchedulesTypes.bag.RowJob.{RowJob}
-use Rattle.vt_pass_tasks.specs.SharedRows.{rows_of}
-use Rattle.vt_pass_tasks.specs.SchedulesTypes.schedule.Schedule.{Ghosts as ScheduleMeanings}
-use Rattle.vt_pass_tasks.specs.SchedulesRows.{AreTaken, AreAllRows, AreRowsInPlace}
-use Rattle.vt_pass_tasks.specs.PassRowsTypes.sampler.PassSampler.{PassSampler}
-use Rattle.vt_pass_tasks.specs.DrawnRows.{IsDrawnRow}
-use Rattle.vt_pass_tasks.specs.PassSamplers.{HasDrawn}
+use Rattle.vt_pass_rows.specs.PicturesTypes.filters.Filter.{Ghosts as FilterMeanings}
+use Rattle.vt_pass_rows.specs.FilterLaws.{WantsFew, picture_wants}
+use Rattle.vt_pass_rows.specs.Evidence.{AreShown}
+use Rattle.vt_pass_rows.proofs.Handed.{shown_by_more}
+use Rattle.vt_pass_rows.specs.Samplers.{row_length}
+use Rattle.vt_pass_rows.proofs.Sharing.{picture_few}
+use Rattle.vt_pass_rows.specs.PageTableTypes.table.PageTable.{Ghosts as TableMeanings}
+use Rattle.vt_pass_rows.specs.SchedulesTypes.bag.RowJob.{RowJob}
+use Rattle.vt_pass_rows.specs.SharedRows.{rows_of}
+use Rattle.vt_pass_rows.specs.SchedulesTypes.schedule.Schedule.{Ghosts as ScheduleMeanings}
+use Rattle.vt_pass_rows.specs.SchedulesRows.{AreTaken, AreAllRows, AreRowsInPlace}
+use Rattle.vt_pass_rows.specs.declared.sampler.PassSampler.{PassSampler}
+use Rattle.vt_pass_rows.specs.DrawnRows.{IsDrawnRow}
+use Rattle.vt_pass_rows.specs.PassSamplers.{HasDrawn}
 use Rattle.vt_pass_pool.specs.declared.pool.PassPool.{PassPool}
 use Rattle.vt_pass_pool.specs.Placing.{ArePlaced, all_kept, rows_kept, counted_by, line_of, RiseBySampler}
 use Rattle.vt_pass_pool.specs.Pools.{IsSampler, AreSamplers, AreSameSamplers, line_length, ways_of}

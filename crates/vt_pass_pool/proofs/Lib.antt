@@ -1,4 +1,4 @@
-pub use Rattle.vt_pass_tasks.proofs.Handed
+pub use Rattle.vt_pass_rows.proofs.Handed
 mod Listed
 pub mod Stills
 mod MadeSamplers

@@ -4,11 +4,11 @@ use Rattle.std.specs.Prelude.{slice_get}
 use Rattle.std.proofs.lemmas.List.{length-append, map-append, reverse-append, append_assoc, append-nil}
 use Rattle.std.proofs.lemmas.Option.{none-some}
 use Rattle.vt_journal.specs.Shape.{Shape}
-use Rattle.vt_pass_tasks.specs.PageTableTypes.table.PageTable.{Ghosts as TableMeanings}
-use Rattle.vt_pass_tasks.specs.Readers.{AreHome}
-use Rattle.vt_pass_tasks.specs.SchedulesTypes.bag.RowJob.{RowJob}
-use Rattle.vt_pass_tasks.specs.SchedulesRows.{AreRowsInPlace}
-use Rattle.vt_pass_tasks.specs.PassRowsTypes.sampler.PassSampler.{PassSampler}
+use Rattle.vt_pass_rows.specs.PageTableTypes.table.PageTable.{Ghosts as TableMeanings}
+use Rattle.vt_pass_rows.specs.Readers.{AreHome}
+use Rattle.vt_pass_rows.specs.SchedulesTypes.bag.RowJob.{RowJob}
+use Rattle.vt_pass_rows.specs.SchedulesRows.{AreRowsInPlace}
+use Rattle.vt_pass_rows.specs.declared.sampler.PassSampler.{PassSampler}
 use Rattle.vt_pass_pool.specs.Pools.{IsSampler, AreSamplers, AreAtHome}
 use Rattle.vt_pass_pool.proofs.Listed.{made_at, pushed_at}
 

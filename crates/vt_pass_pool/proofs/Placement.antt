@@ -9,9 +9,9 @@ use Rattle.std.proofs.lemmas.List.FromFn.{length-range_with_len, get_or-range_wi
 use Rattle.std.proofs.lemmas.List.Sorted.{Contains-permutation}
 use Rattle.std.proofs.lemmas.List.Sums.{sum_by_push, sum_by-take-le}
 use Rattle.std.proofs.lemmas.Option.{none-some, same_Some}
-use Rattle.vt_pass_tasks.specs.SchedulesTypes.bag.RowJob.{RowJob}
-use Rattle.vt_pass_tasks.specs.SharedRows.{rows_of}
-use Rattle.vt_pass_tasks.specs.PassRowsTypes.sampler.PassSampler.{PassSampler}
+use Rattle.vt_pass_rows.specs.SchedulesTypes.bag.RowJob.{RowJob}
+use Rattle.vt_pass_rows.specs.SharedRows.{rows_of}
+use Rattle.vt_pass_rows.specs.declared.sampler.PassSampler.{PassSampler}
 use Rattle.vt_pass_pool.specs.Placing.{IsPlacedAt, ArePlaced, all_kept, rows_kept, counted_by, bytes_of}
 use Rattle.vt_pass_pool.proofs.Listed.{contained_of}
 

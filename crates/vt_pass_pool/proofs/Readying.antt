@@ -5,10 +5,10 @@ use Rattle.vt_outside.specs.Lists.{ListView}
 use Rattle.vt_outside.specs.declared.answers.NoMemory.{NoMemory}
 use Rattle.vt_journal.specs.Shape.{Shape}
 use Rattle.vt_journal.specs.declared.changes.RowLine.{RowLine}
-use Rattle.vt_pass_tasks.specs.PageTableTypes.table.PageTable.{Ghosts as TableMeanings}
-use Rattle.vt_pass_tasks.specs.SchedulesTypes.bag.RowJob.{RowJob}
-use Rattle.vt_pass_tasks.specs.SchedulesTypes.schedule.Schedule.{Ghosts as ScheduleMeanings}
-use Rattle.vt_pass_tasks.specs.PassRowsTypes.sampler.PassSampler.{PassSampler}
+use Rattle.vt_pass_rows.specs.PageTableTypes.table.PageTable.{Ghosts as TableMeanings}
+use Rattle.vt_pass_rows.specs.SchedulesTypes.bag.RowJob.{RowJob}
+use Rattle.vt_pass_rows.specs.SchedulesTypes.schedule.Schedule.{Ghosts as ScheduleMeanings}
+use Rattle.vt_pass_rows.specs.declared.sampler.PassSampler.{PassSampler}
 use Rattle.vt_pass_pool.specs.declared.pool.PassPool.{PassPool}
 use Rattle.vt_pass_pool.specs.Pools.{AreSamplers, AreSameSamplers, AreReady, IsIdlePool, IsReadyPool, line_length, ways_of}
 use Rattle.vt_pass_pool.proofs.SameSamplers.{same_samplers}

@@ -3,8 +3,8 @@ use Rattle.std.proofs.Common.{◌≡◌, ℕ, ◌<◌, ◌≤◌, inl, inr, ◌�
 use Rattle.std.specs.Prelude.{AllPairs, Contains}
 use Rattle.std.proofs.lemmas.Bool.{cases_lt}
 use Rattle.std.proofs.lemmas.List.{length-map, get_or-map, get_or_default}
-use Rattle.vt_pass_tasks.specs.SchedulesTypes.bag.RowJob.{RowJob}
-use Rattle.vt_pass_tasks.specs.SharedRows.{VersionsRise, rows_of}
+use Rattle.vt_pass_rows.specs.SchedulesTypes.bag.RowJob.{RowJob}
+use Rattle.vt_pass_rows.specs.SharedRows.{VersionsRise, rows_of}
 
 -- of two rows that one sampler drew the lower one is not of an earlier version
 pub rising_pair : (kept : List RowJob) (a b : RowJob) → AllPairs (λ (x y : ℕ). x < y) (rows_of kept)

@@ -4,7 +4,7 @@ use Rattle.std.specs.Prelude.{slice_get, slice_index, sum_by, All}
 use Rattle.std.proofs.lemmas.List.Sums.{sum_by-cons}
 use Rattle.std.proofs.lemmas.Option.{slice_get_within, slice_get-get_or}
 use Rattle.vt_journal.specs.Shape.{Shape}
-use Rattle.vt_pass_tasks.specs.PassRowsTypes.sampler.PassSampler.{PassSampler}
+use Rattle.vt_pass_rows.specs.declared.sampler.PassSampler.{PassSampler}
 use Rattle.vt_pass_pool.specs.Placing.{counted_by}
 use Rattle.vt_pass_pool.specs.Pools.{IsSameSampler, AreSamplers, AreSameSamplers}
 

@@ -1,6 +1,6 @@
 -- Writers that make no change, one after another.
 use Rattle.std.proofs.Common.{◌≡◌, refl, ◌∙◌}
-use Rattle.vt_pass_tasks.specs.PageTableTypes.table.PageTable.{Ghosts as TableMeanings}
+use Rattle.vt_pass_rows.specs.PageTableTypes.table.PageTable.{Ghosts as TableMeanings}
 use Rattle.vt_pass_pool.specs.Stills.{IsStill}
 
 module _ {T H R W : Type 0} (table : TableMeanings T H R W) (shared : H) where

@@ -3,20 +3,20 @@ use Rattle.std.specs.Prelude.{◌≡◌, ℕ, ◌<◌, ◌≤◌, Bool, IsTrue, 
 use Rattle.vt_definitions.specs.Dealing.{sampler_of}
 use Rattle.vt_journal.specs.Shape.{Shape}
 use Rattle.vt_journal.specs.Pages.{pages_of}
-use Rattle.vt_pass_tasks.specs.Paths.{PathView}
-use Rattle.vt_pass_tasks.specs.Shots.{shot_row}
-use Rattle.vt_pass_tasks.specs.Scenes.{Scene}
+use Rattle.vt_pass_rows.specs.Paths.{PathView}
+use Rattle.vt_pass_rows.specs.Shots.{shot_row}
+use Rattle.vt_pass_rows.specs.Scenes.{Scene}
 use Rattle.vt_journal.specs.declared.changes.RowLine.{RowLine}
-use Rattle.vt_pass_tasks.specs.PicturesTypes.filters.Filter.{Ghosts as FilterMeanings}
-use Rattle.vt_pass_tasks.specs.FilterLaws.{picture_wants}
-use Rattle.vt_pass_tasks.specs.Evidence.{AreShown}
-use Rattle.vt_pass_tasks.specs.All.{AllDid}
-use Rattle.vt_pass_tasks.specs.Samplers.{row_length}
-use Rattle.vt_pass_tasks.specs.PageTableTypes.table.PageTable.{Ghosts as TableMeanings}
-use Rattle.vt_pass_tasks.specs.SchedulesTypes.bag.RowJob.{RowJob}
-use Rattle.vt_pass_tasks.specs.SchedulesTypes.schedule.Schedule.{Ghosts as ScheduleMeanings}
-use Rattle.vt_pass_tasks.specs.PassRowsTypes.sampler.PassSampler.{PassSampler}
-use Rattle.vt_pass_tasks.specs.PassSamplers.{HasDrawn}
+use Rattle.vt_pass_rows.specs.PicturesTypes.filters.Filter.{Ghosts as FilterMeanings}
+use Rattle.vt_pass_rows.specs.FilterLaws.{picture_wants}
+use Rattle.vt_pass_rows.specs.Evidence.{AreShown}
+use Rattle.vt_pass_rows.specs.All.{AllDid}
+use Rattle.vt_pass_rows.specs.Samplers.{row_length}
+use Rattle.vt_pass_rows.specs.PageTableTypes.table.PageTable.{Ghosts as TableMeanings}
+use Rattle.vt_pass_rows.specs.SchedulesTypes.bag.RowJob.{RowJob}
+use Rattle.vt_pass_rows.specs.SchedulesTypes.schedule.Schedule.{Ghosts as ScheduleMeanings}
+use Rattle.vt_pass_rows.specs.declared.sampler.PassSampler.{PassSampler}
+use Rattle.vt_pass_rows.specs.PassSamplers.{HasDrawn}
 use Rattle.vt_pass_pool.specs.declared.pool.PassPool.{PassPool}
 use Rattle.vt_pass_pool.specs.Placing.{line_of, lines_of, RiseBySampler}
 use Rattle.vt_pass_pool.specs.Pools.{IsIdlePool, IsReadyPool}

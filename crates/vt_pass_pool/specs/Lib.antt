@@ -5,24 +5,23 @@ pub use Rattle.vt_journal.specs.Changes
 pub use Rattle.vt_journal.specs.JournalText
 pub use Rattle.vt_journal.specs.Pages
 pub use Rattle.vt_journal.specs.declared as JournalTypes
-pub use Rattle.vt_pass_tasks.specs.DrawLookups
-pub use Rattle.vt_pass_tasks.specs.Evidence
-pub use Rattle.vt_pass_tasks.specs.Fills
-pub use Rattle.vt_pass_tasks.specs.FilterLaws
-pub use Rattle.vt_pass_tasks.specs.PageTableTypes
-pub use Rattle.vt_pass_tasks.specs.PassRowsTypes
-pub use Rattle.vt_pass_tasks.specs.PassSamplers
-pub use Rattle.vt_pass_tasks.specs.PassTasks
-pub use Rattle.vt_pass_tasks.specs.Paths
-pub use Rattle.vt_pass_tasks.specs.PicturesTypes
-pub use Rattle.vt_pass_tasks.specs.Replays
-pub use Rattle.vt_pass_tasks.specs.Rows
-pub use Rattle.vt_pass_tasks.specs.Samplers
-pub use Rattle.vt_pass_tasks.specs.Scenes
-pub use Rattle.vt_pass_tasks.specs.SchedulesTypes
-pub use Rattle.vt_pass_tasks.specs.Shots
-pub use Rattle.vt_pass_tasks.specs.Streamed
-pub use Rattle.vt_pass_tasks.specs.declared as PassTasksTypes
+pub use Rattle.vt_pass_rows.specs.DrawLookups
+pub use Rattle.vt_pass_rows.specs.Evidence
+pub use Rattle.vt_pass_rows.specs.Fills
+pub use Rattle.vt_pass_rows.specs.FilterLaws
+pub use Rattle.vt_pass_rows.specs.PageTableTypes
+pub use Rattle.vt_pass_rows.specs.PassSamplers
+pub use Rattle.vt_pass_rows.specs.Paths
+pub use Rattle.vt_pass_rows.specs.PicturesTypes
+pub use Rattle.vt_pass_rows.specs.Replays
+pub use Rattle.vt_pass_rows.specs.Rows
+pub use Rattle.vt_pass_rows.specs.Samplers
+pub use Rattle.vt_pass_rows.specs.Scenes
+pub use Rattle.vt_pass_rows.specs.SchedulesTypes
+pub use Rattle.vt_pass_rows.specs.Shots
+pub use Rattle.vt_pass_rows.specs.declared as PassRowsTypes
+pub use Rattle.vt_pass_stream.specs.Streamed
+pub mod PassTasks
 pub mod Stills
 pub mod Placing
 pub mod Pools

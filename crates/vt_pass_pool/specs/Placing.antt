@@ -1,9 +1,9 @@
 -- Rows that are put into the places of their numbers.
 use Rattle.std.specs.Prelude.{◌≡◌, ◌≢◌, ℕ, ◌<◌, ◌≤◌, ◌⊎◌, Some, List, [], ◌∷◌, ◌++◌, length, map, slice_get, slice_index, slice_index_or, sum_by, Contains}
 use Rattle.vt_journal.specs.declared.changes.RowLine.{RowLine}
-use Rattle.vt_pass_tasks.specs.SchedulesTypes.bag.RowJob.{RowJob}
-use Rattle.vt_pass_tasks.specs.SharedRows.{rows_of}
-use Rattle.vt_pass_tasks.specs.PassRowsTypes.sampler.PassSampler.{PassSampler}
+use Rattle.vt_pass_rows.specs.SchedulesTypes.bag.RowJob.{RowJob}
+use Rattle.vt_pass_rows.specs.SharedRows.{rows_of}
+use Rattle.vt_pass_rows.specs.declared.sampler.PassSampler.{PassSampler}
 
 -- its number is below that of the rows
 abbrev pub IsRowInside : ℕ → RowJob → Type 0

@@ -4,12 +4,12 @@ use Rattle.vt_definitions.specs.Limits.{most_samplers}
 use Rattle.vt_definitions.specs.Depths.{IsDepth}
 use Rattle.vt_journal.specs.Shape.{Shape}
 use Rattle.vt_journal.specs.Pages.{pages_of}
-use Rattle.vt_pass_tasks.specs.Paths.{ArePictureSides}
-use Rattle.vt_pass_tasks.specs.Samplers.{row_length}
-use Rattle.vt_pass_tasks.specs.PageTableTypes.table.PageTable.{Ghosts as TableMeanings}
-use Rattle.vt_pass_tasks.specs.SchedulesTypes.schedule.Schedule.{Ghosts as ScheduleMeanings}
-use Rattle.vt_pass_tasks.specs.SchedulesRows.{AreRowsInPlace}
-use Rattle.vt_pass_tasks.specs.PassRowsTypes.sampler.PassSampler.{PassSampler}
+use Rattle.vt_pass_rows.specs.Paths.{ArePictureSides}
+use Rattle.vt_pass_rows.specs.Samplers.{row_length}
+use Rattle.vt_pass_rows.specs.PageTableTypes.table.PageTable.{Ghosts as TableMeanings}
+use Rattle.vt_pass_rows.specs.SchedulesTypes.schedule.Schedule.{Ghosts as ScheduleMeanings}
+use Rattle.vt_pass_rows.specs.SchedulesRows.{AreRowsInPlace}
+use Rattle.vt_pass_rows.specs.declared.sampler.PassSampler.{PassSampler}
 use Rattle.vt_pass_pool.specs.declared.pool.PassPool.{PassPool}
 
 -- the ways of samplers to rows

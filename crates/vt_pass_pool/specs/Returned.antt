@@ -1,11 +1,11 @@
 -- Samplers that come home after a pass.
 use Rattle.std.specs.Prelude.{◌≡◌, ℕ, ◌^◌, ◌<◌, ◌≤◌, Bool, Some, List, [], length, slice_get, All}
 use Rattle.vt_journal.specs.Shape.{Shape}
-use Rattle.vt_pass_tasks.specs.DrawLookups.{Note}
-use Rattle.vt_pass_tasks.specs.PageTableTypes.table.PageTable.{Ghosts as TableMeanings}
-use Rattle.vt_pass_tasks.specs.SchedulesTypes.schedule.Schedule.{Ghosts as ScheduleMeanings}
-use Rattle.vt_pass_tasks.specs.SchedulesRows.{AreTaken, AreAllRows}
-use Rattle.vt_pass_tasks.specs.PassRowsTypes.sampler.PassSampler.{PassSampler}
+use Rattle.vt_pass_rows.specs.DrawLookups.{Note}
+use Rattle.vt_pass_rows.specs.PageTableTypes.table.PageTable.{Ghosts as TableMeanings}
+use Rattle.vt_pass_rows.specs.SchedulesTypes.schedule.Schedule.{Ghosts as ScheduleMeanings}
+use Rattle.vt_pass_rows.specs.SchedulesRows.{AreTaken, AreAllRows}
+use Rattle.vt_pass_rows.specs.declared.sampler.PassSampler.{PassSampler}
 use Rattle.vt_pass_pool.specs.Pools.{ways_of}
 use Rattle.vt_pass_pool.specs.Placing.{IsRowInside, rows_kept, counted_by}
 

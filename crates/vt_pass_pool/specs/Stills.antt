@@ -1,7 +1,7 @@
 -- A writer that makes no change.
 use Rattle.std.specs.Prelude.{◌≡◌}
-use Rattle.vt_pass_tasks.specs.PageTableTypes.table.PageTable.{Ghosts as TableMeanings}
-use Rattle.vt_pass_tasks.specs.Fills.{FillsNone}
+use Rattle.vt_pass_rows.specs.PageTableTypes.table.PageTable.{Ghosts as TableMeanings}
+use Rattle.vt_pass_rows.specs.Fills.{FillsNone}
 
 -- a writer came to be another by calls that change neither the page table nor a frame
 pub record IsStill {T H R W : Type 0} (table : TableMeanings T H R W) (shared : H) (v w : W) : Type 0 where

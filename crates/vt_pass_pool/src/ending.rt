@@ -1,8 +1,8 @@
 //! What is left of a pass for its samplers.
 
 ghost use Rattle.std.specs.Prelude.{◌≡◌, ℕ, ◌<◌, ◌≤◌, ◌^◌, List, [], All, OnOk, OnErr, length, slice_index};
-ghost use Rattle.vt_pass_tasks.specs.SchedulesRows.{AreAllRows};
-ghost use Rattle.vt_pass_tasks.specs.PassRowsTypes.sampler.PassSampler.{PassSampler as Sampler};
+ghost use Rattle.vt_pass_rows.specs.SchedulesRows.{AreAllRows};
+ghost use Rattle.vt_pass_rows.specs.declared.sampler.PassSampler.{PassSampler as Sampler};
 ghost use Rattle.vt_pass_pool.specs.Pools.{AreSameSamplers, AreAtHome};
 ghost use Rattle.vt_pass_pool.specs.Stills.{IsStill};
 ghost use Rattle.vt_pass_pool.specs.Placing.{ArePlaced, all_kept, rows_kept, counted_by, lines_of};
@@ -13,7 +13,7 @@ use crate::returning::return_samplers;
 use std::sync::Wait;
 use vt_journal::RowLines;
 use vt_outside::NoMemory;
-use vt_pass_tasks::{FeedbackCounts as Counts, PageTable, PassSampler, RowJob, Schedule};
+use vt_pass_rows::{FeedbackCounts as Counts, PageTable, PassSampler, RowJob, Schedule};
 
 /// Brings samplers home, puts the rows that they drew into their places, and tells of them. It refuses where the writer does not come to
 /// know what their readers said. It may wait.

@@ -1,5 +1,5 @@
-//! The samplers of a machine between its passes: they are made, made ready for a pass, and brought home after it with the rows that they
-//! drew: for all page tables and schedules.
+//! The workers of a pass over any page table, samplers, loaders and the streamer as tasks; and the samplers of a machine between its passes:
+//! made, made ready for a pass, and brought home after it with the rows that they drew.
 #![tactic(auto)]
 
 mod ending;
@@ -8,10 +8,12 @@ mod opening;
 mod placing;
 mod pool;
 mod returning;
+mod shared;
+mod tasks;
 
 pub use pool::PassPool;
+pub use shared::{PassShared, PassStreamer};
 pub use vt_journal::{Geometry, Journal};
-pub use vt_pass_tasks::{
-    Dealt, FeedbackCounts, Filter, PageTable, PassSampler, PassShared, PassStreamer, Path, RowJob,
-    Schedule, Shared, Shot,
+pub use vt_pass_rows::{
+    Dealt, FeedbackCounts, Filter, PageTable, PassSampler, Path, RowJob, Schedule, Shared, Shot,
 };

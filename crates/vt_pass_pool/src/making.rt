@@ -2,16 +2,16 @@
 
 ghost use Rattle.std.specs.Prelude.{◌≡◌, ℕ, ◌≤◌, List, length, reverse, IfOk};
 ghost use Rattle.vt_definitions.specs.Depths.{IsDepth};
-ghost use Rattle.vt_pass_tasks.specs.Samplers.{row_length};
-ghost use Rattle.vt_pass_tasks.specs.Readers.{AreHome};
-ghost use Rattle.vt_pass_tasks.specs.SchedulesRows.{AreRowsInPlace};
+ghost use Rattle.vt_pass_rows.specs.Samplers.{row_length};
+ghost use Rattle.vt_pass_rows.specs.Readers.{AreHome};
+ghost use Rattle.vt_pass_rows.specs.SchedulesRows.{AreRowsInPlace};
 ghost use Rattle.vt_pass_pool.specs.Pools.{IsSampler, AreSamplers, AreAtHome};
 
 use std::alloc::Global;
 use vt_definitions::texel_length;
 use vt_journal::Geometry;
 use vt_outside::{Items, NoMemory};
-use vt_pass_tasks::{PageTable, PassSampler, Path, RowJob, Schedule};
+use vt_pass_rows::{PageTable, PassSampler, Path, RowJob, Schedule};
 
 // A list in the other order.
 fn turned<I: Drop>(alloc: Global, list: Items<I>) -> Result<Items<I>, NoMemory>

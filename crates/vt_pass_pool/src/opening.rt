@@ -8,7 +8,7 @@ ghost use Rattle.vt_pass_pool.specs.Stills.{IsStill};
 
 use std::alloc::Global;
 use vt_outside::NoMemory;
-use vt_pass_tasks::{PageTable, PassSampler, Schedule};
+use vt_pass_rows::{PageTable, PassSampler, Schedule};
 
 // Makes one sampler ready.
 fn open_sampler<T: PageTable, S: Schedule>(

@@ -1,12 +1,12 @@
 //! The rows that samplers drew are told, once they are at the places of their numbers.
 
 ghost use Rattle.std.specs.Prelude.{◌≡◌, ℕ, ◌+◌, ◌<◌, ◌≤◌, ◌^◌, [], All, length, slice_index};
-ghost use Rattle.vt_pass_tasks.specs.PassRowsTypes.sampler.PassSampler.{PassSampler as Sampler};
+ghost use Rattle.vt_pass_rows.specs.declared.sampler.PassSampler.{PassSampler as Sampler};
 ghost use Rattle.vt_pass_pool.specs.Placing.{IsRowInside, ArePlaced, counted_by, lines_of};
 
 use vt_journal::{RowLine, RowLines};
 use vt_outside::Items;
-use vt_pass_tasks::{FeedbackCounts as Counts, PageTable, PassSampler, RowJob, Schedule};
+use vt_pass_rows::{FeedbackCounts as Counts, PageTable, PassSampler, RowJob, Schedule};
 
 /// Puts the rows that a sampler keeps into the places of their numbers.
 pub(crate) fn place_rows(kept: &mut Items<RowJob>, drawn: &mut [RowJob])

@@ -6,10 +6,10 @@ ghost use Rattle.vt_definitions.specs.Limits.{most_samplers};
 ghost use Rattle.vt_definitions.specs.Depths.{IsDepth};
 ghost use Rattle.vt_journal.specs.Pages.{root_of};
 ghost use Rattle.vt_journal.specs.Changes.{newest};
-ghost use Rattle.vt_pass_tasks.specs.Paths.{ArePictureSides};
-ghost use Rattle.vt_pass_tasks.specs.Scenes.{scene_of};
-ghost use Rattle.vt_pass_tasks.specs.Readers.{AreHome};
-ghost use Rattle.vt_pass_tasks.specs.PassRowsTypes.sampler.PassSampler.{PassSampler as Sampler};
+ghost use Rattle.vt_pass_rows.specs.Paths.{ArePictureSides};
+ghost use Rattle.vt_pass_rows.specs.Scenes.{scene_of};
+ghost use Rattle.vt_pass_rows.specs.Readers.{AreHome};
+ghost use Rattle.vt_pass_rows.specs.declared.sampler.PassSampler.{PassSampler as Sampler};
 ghost use Rattle.vt_pass_pool.specs.Placing.{bytes_of};
 ghost use Rattle.vt_pass_pool.specs.Pools.{IsIdlePool, IsReadyPool};
 ghost use Rattle.vt_pass_pool.specs.Stills.{IsStill};
@@ -24,7 +24,7 @@ use std::sync::Wait;
 use vt_definitions::texel_length;
 use vt_journal::{Geometry, RowLines};
 use vt_outside::{Items, NoMemory};
-use vt_pass_tasks::{
+use vt_pass_rows::{
     FeedbackCounts as Counts, Filter, PageTable, PassSampler, Path, RowJob, Schedule, Shot,
 };
 

@@ -1,14 +1,14 @@
 //! Samplers come home after a pass: their readers are closed, their ways to rows taken back, and their rows put into their places.
 
 ghost use Rattle.std.specs.Prelude.{◌≡◌, ℕ, ◌<◌, ◌⊎◌, false, List, [], ◌∷◌, ◌++◌, All, IsTrue, length};
-ghost use Rattle.vt_pass_tasks.specs.PassRowsTypes.sampler.PassSampler.{PassSampler as Sampler};
+ghost use Rattle.vt_pass_rows.specs.declared.sampler.PassSampler.{PassSampler as Sampler};
 ghost use Rattle.vt_pass_pool.specs.Pools.{IsSameSampler, AreSameSamplers, AreAtHome, ways_of};
 ghost use Rattle.vt_pass_pool.specs.Stills.{IsStill};
 ghost use Rattle.vt_pass_pool.specs.Placing.{IsRowInside, ArePlaced, all_kept};
 ghost use Rattle.vt_pass_pool.specs.Returned.{IsClosed, AreOut, AreClosed};
 
 use crate::placing::place_rows;
-use vt_pass_tasks::{PageTable, PassSampler, RowJob, Schedule};
+use vt_pass_rows::{PageTable, PassSampler, RowJob, Schedule};
 
 // Brings one sampler home, and tells whether the writer knows by now what its reader said.
 fn return_sampler<T: PageTable, S: Schedule>(

@@ -1,5 +1,5 @@
 use Rattle.std.proofs.Common.{◌+◌, length, refl, ap, sym, subst, rules}
-use Rattle.vt_pass_tasks.specs.SchedulesRows.{AreRowsInPlace}
+use Rattle.vt_pass_rows.specs.SchedulesRows.{AreRowsInPlace}
 use Rattle.vt_pass_pool.proofs.MadeSamplers.{rows_more}
 use Rattle.vt_pass_pool.proofs.making.new_rows.Goals as goal
 

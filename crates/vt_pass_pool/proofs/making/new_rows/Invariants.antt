@@ -1,5 +1,5 @@
 use Rattle.std.proofs.Common.{◌+◌, ◌≤◌, length}
-use Rattle.vt_pass_tasks.specs.SchedulesRows.{AreRowsInPlace}
+use Rattle.vt_pass_rows.specs.SchedulesRows.{AreRowsInPlace}
 use Rattle.vt_pass_pool.proofs.making.new_rows.Given as goal
 
 abbrev pub invariant-loop-row : goal.invariant-loop-row

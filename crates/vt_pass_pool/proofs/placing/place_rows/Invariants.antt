@@ -1,6 +1,6 @@
 use Rattle.std.proofs.Common.{◌≡◌, List, ◌++◌, length}
 use Rattle.std.specs.Prelude.{All}
-use Rattle.vt_pass_tasks.specs.SchedulesTypes.bag.RowJob.{RowJob}
+use Rattle.vt_pass_rows.specs.SchedulesTypes.bag.RowJob.{RowJob}
 use Rattle.vt_pass_pool.specs.Placing.{IsRowInside, ArePlaced}
 use Rattle.vt_pass_pool.proofs.placing.place_rows.Given as goal
 

@@ -1,9 +1,9 @@
 use Rattle.std.proofs.Common.{◌≡◌, ◌≤◌, ◌<◌, length, sym, ap, ◌∙◌, subst, arith}
 use Rattle.std.specs.Prelude.{All, slice_index}
 use Rattle.std.specs.List.{refill}
-use Rattle.vt_pass_tasks.proofs.Lent.{refilled}
-use Rattle.vt_pass_tasks.specs.Scenes.{scene_of}
-use Rattle.vt_pass_tasks.specs.SchedulesRows.{AreAllRows}
+use Rattle.vt_pass_rows.proofs.Lent.{refilled}
+use Rattle.vt_pass_rows.specs.Scenes.{scene_of}
+use Rattle.vt_pass_rows.specs.SchedulesRows.{AreAllRows}
 use Rattle.vt_pass_pool.specs.Placing.{ArePlaced, all_kept, rows_kept, counted_by, lines_of}
 use Rattle.vt_pass_pool.specs.Pools.{AreSameSamplers, AreAtHome, line_length, ways_of}
 use Rattle.vt_pass_pool.specs.Returned.{AreOut, AreClosed, HaveTaken, MayCount}

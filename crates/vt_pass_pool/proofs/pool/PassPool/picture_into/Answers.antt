@@ -2,7 +2,7 @@ use Rattle.std.proofs.Common.{◌≡◌, ◌<◌, ◌++◌, ℕ, List, length, t
 use Rattle.std.specs.List.{concat}
 use Rattle.std.proofs.lemmas.List.{take_more}
 use Rattle.std.proofs.lemmas.Option.{get_or_from_slice_get}
-use Rattle.vt_pass_tasks.specs.SchedulesTypes.bag.RowJob.{RowJob}
+use Rattle.vt_pass_rows.specs.SchedulesTypes.bag.RowJob.{RowJob}
 use Rattle.vt_pass_pool.specs.Placing.{bytes_of}
 use Rattle.vt_pass_pool.proofs.Placement.{bytes_push}
 use Rattle.vt_pass_pool.proofs.pool.PassPool.picture_into.Goals as goal

@@ -1,7 +1,7 @@
 use Rattle.std.proofs.Common.{◌≡◌, length, sym, ap, ◌∙◌, subst, arith}
-use Rattle.vt_pass_tasks.proofs.Lent.{refilled}
+use Rattle.vt_pass_rows.proofs.Lent.{refilled}
 use Rattle.vt_journal.specs.Shape.{Shape}
-use Rattle.vt_pass_tasks.specs.SchedulesRows.{AreRowsInPlace}
+use Rattle.vt_pass_rows.specs.SchedulesRows.{AreRowsInPlace}
 use Rattle.vt_pass_pool.specs.Pools.{AreSamplers, AreAtHome, line_length}
 use Rattle.vt_pass_pool.proofs.Readying.{ready_pool}
 use Rattle.vt_pass_pool.proofs.pool.PassPool.prepare.Goals as goal

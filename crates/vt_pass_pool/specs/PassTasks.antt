@@ -12,7 +12,7 @@ use Rattle.vt_pass_stream.specs.TakenResults.{Streams}
 use Rattle.vt_pass_stream.specs.BlankReports.{IsBlank}
 use Rattle.vt_pass_rows.specs.PageTableTypes.table.PageTable.{Ghosts as TableMeanings}
 use Rattle.vt_pass_stream.specs.Streamed.{HasStreamedAll}
-use Rattle.vt_pass_tasks.specs.declared.shared.PassStreamer.{PassStreamer}
+use Rattle.vt_pass_pool.specs.declared.shared.PassStreamer.{PassStreamer}
 
 -- the streamer may stream a batch: it is that of what is shared, its pass is one of the results, the batch is lawful for the newest version, and
 -- there is room for the changes and for what is told

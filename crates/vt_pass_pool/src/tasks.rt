@@ -3,7 +3,7 @@
 ghost use Rattle.vt_load.specs.QueuedLoaders.{MayLoad, HasLoaded};
 ghost use Rattle.vt_pass_rows.specs.Samplers.{row_length};
 ghost use Rattle.vt_pass_rows.specs.PassSamplers.{MayDraw, HasDrawn};
-ghost use Rattle.vt_pass_tasks.specs.PassTasks.{MayStream, HasStreamed};
+ghost use Rattle.vt_pass_pool.specs.PassTasks.{MayStream, HasStreamed};
 
 use crate::shared::{PassShared, PassStreamer};
 use std::sync::Wait;
