@@ -17,11 +17,11 @@ use std::thread::Threads;
 use std::{env, io};
 use vt_command_inputs::Refusal;
 use vt_machine::PassMachine;
-use vt_outside::{File, Folder, Gate, OpenGate, RealFolder, RealSink, Sink};
+use vt_outside::{Folder, Gate, OpenGate, RealFolder, RealSink, Sink};
 use vt_pictures::{Filter, Nearest};
 pub use vt_top_call::run;
 use vt_top_call::{
-    Bilinear, BlendMachine, Machines, StealMachine, SwapMachine, WordMachine, usage_line,
+    Bilinear, BlendMachine, StealMachine, SwapMachine, WordMachine, run_by, usage_line,
 };
 
 // The words after the program's name.
@@ -43,32 +43,8 @@ fn unread(error: &io::Error) -> Refusal<'static>
     }
 }
 
-// The machines of this program: a walk draws the nearest texel over shared words with its rows dealt to the samplers, but where its words
-// ask for the swapped table, for shared rows, or for blends.
-struct Here;
-
-impl<F: File + Send> Machines<F> for Here {
-    type Standard = WordMachine<F>;
-
-    type SwappedTable = SwapMachine<F>;
-
-    type SharedRows = StealMachine<F>;
-
-    type Bilinear = BlendMachine<F>;
-
-    ghost kinds = { machines_of (kind_of ⟦<WordMachine<F> as PassMachine>⟧) (kind_of ⟦<SwapMachine<F> as PassMachine>⟧)
-        (kind_of ⟦<StealMachine<F> as PassMachine>⟧) (kind_of ⟦<BlendMachine<F> as PassMachine>⟧) };
-
-    ghost standard = { λ words c result ends. ends };
-
-    ghost swapped_table = { λ words c result ends. ends };
-
-    ghost shared_rows = { λ words c result ends. ends };
-
-    ghost bilinear = { λ words c result ends. ends };
-}
-
-// Does what the words say, as `run` of vt_top_call does, by the machines of this program.
+// Does what the words say, as `run` of vt_top_call does, by the machines of this program: a walk draws the nearest texel over
+// shared words with its rows dealt to the samplers, but where its words ask for the swapped table, for shared rows, or for blends.
 fn run_here<Rt: Threads + Wait + Sync, D: Folder, O: Sink, E: Sink, G: Gate + Sync>(
     rt: &Rt,
     alloc: Global,
@@ -78,13 +54,24 @@ fn run_here<Rt: Threads + Wait + Sync, D: Folder, O: Sink, E: Sink, G: Gate + Sy
     err: &mut E,
     gate: &G,
 ) -> u8
-    ensures run { IsRun (run_of ⟦<Here as Machines<D::File>>⟧.kinds D.Folder O.Sink E.Sink
+    ensures run { IsRun (run_of (machines_of (kind_of ⟦<WordMachine<D::File> as PassMachine>⟧) (kind_of ⟦<SwapMachine<D::File> as PassMachine>⟧)
+        (kind_of ⟦<StealMachine<D::File> as PassMachine>⟧) (kind_of ⟦<BlendMachine<D::File> as PassMachine>⟧)) D.Folder O.Sink E.Sink
         (texts words.now) folder.old folder.new out.old out.new err.old err.new) result }
     ensures drawings { DrawsHere ⟦<Nearest as Filter>⟧ ⟦<Bilinear as Filter>⟧ ⟦<WordMachine<D::File> as PassMachine>⟧.drawing
         ⟦<SwapMachine<D::File> as PassMachine>⟧.drawing ⟦<StealMachine<D::File> as PassMachine>⟧.drawing
         ⟦<BlendMachine<D::File> as PassMachine>⟧.drawing }
 {
-    run::<Here, Rt, D, O, E, G>(rt, alloc, words, folder, out, err, gate)
+    run_by::<
+        WordMachine<D::File>,
+        SwapMachine<D::File>,
+        StealMachine<D::File>,
+        BlendMachine<D::File>,
+        Rt,
+        D,
+        O,
+        E,
+        G,
+    >(rt, alloc, words, folder, out, err, gate)
 }
 
 fn main(rt: HostRuntime) -> ExitCode {
