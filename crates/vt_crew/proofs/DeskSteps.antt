@@ -1,14 +1,14 @@
 -- Each step on a desk keeps its rule.
-use Rattle.std.proofs.Common.{◌≡◌, ◌≢◌, ℕ, zero, suc, ◌<◌, List, [], ◌∷◌, ◌++◌, Some, None, true≢false, refl, sym, ap, ◌∙◌, subst, ne_eqb, arith}
+use Rattle.std.proofs.Common.{◌≡◌, ◌≢◌, ℕ, zero, suc, ◌<◌, List, [], ◌∷◌, ◌++◌, Some, None, true, true≢false, refl, sym, ap, ◌∙◌, subst, ne_eqb, arith}
 use Rattle.std.specs.Prelude.{Option, slice_index, slice_set, MatchBool, is_some, nat_eq}
 use mathlib.Core.Option.{some, none, some-injective, some-ne-none}
 use lib.ListN.{get_elem?}
-use Rattle.atomic_table.specs.Table.{State, Act, keeps, takes, gives, Valid, stepped, carried_after, Allows, Splits, Final, Seen, opening}
+use Rattle.atomic_table.specs.Table.{State, Act, keeps, takes, gives, Valid, stepped, carried_after, rest, Allows, Splits, Final, Seen, opening}
 use Rattle.vt_crew.specs.declared.views.DeskView.{DeskView}
 use Rattle.vt_crew.specs.declared.views.DeskView.TheVariants.{Alone, Fresh, Free, Waiting, Idle, Working, Left}
 use Rattle.vt_crew.specs.DeskPhases.{Phase, single, paired, free, asked, working, done, over, ended}
 use Rattle.vt_crew.specs.DeskPhases.{home_in, caller_in, hands_in, views_in, phase_state}
-use Rattle.vt_crew.specs.DeskEnds.{Seated, IsFreeEnd, WaitsFor, IsIdleEnd, HasLeftDesk}
+use Rattle.vt_crew.specs.DeskEnds.{Seated, IsFreeEnd, WaitsFor, is_waiting, WaitsForSome, IsIdleEnd, HasLeftDesk}
 use Rattle.vt_crew.specs.TurnRules.{IsSoundPhase, IsDeskKept}
 use Rattle.vt_crew.specs.DeskPlays.{TakesSlot, LaysJob, FindsJob, TellsDone, TakesBack, LeavesDesk}
 
@@ -76,6 +76,16 @@ module _ {J : Type 0} where
   one_hand over m v at = nobody v at
   one_hand ended m v at = nobody v at
 
+  -- a caller who waits, waits for a job
+  awaited : (v : DeskView J) → is_waiting v ≡ true → (j : J) × (v ≡ Waiting j)
+  awaited Alone is = absurd (true≢false (sym is))
+  awaited Fresh is = absurd (true≢false (sym is))
+  awaited Free is = absurd (true≢false (sym is))
+  awaited (Waiting j) is = (j, refl)
+  awaited Idle is = absurd (true≢false (sym is))
+  awaited (Working j) is = absurd (true≢false (sym is))
+  awaited Left is = absurd (true≢false (sym is))
+
   -- the seat of a caller's view is the first
   at_caller : (id : ℕ) (p : Phase J) (v : DeskView J) → kind v < 4 → get_elem? (views_in p) id ≡ some v → (id ≡ 0) × (some (caller_in p) ≡ some v)
   at_caller zero p v low at = (refl, at)
@@ -86,6 +96,17 @@ module _ {J : Type 0} where
   at_hand zero p v high at = absurd (omega (arith, high, caller_low p, ap kind (some-injective (caller_in p) v at)))
   at_hand (suc zero) p v high at = (refl, at)
   at_hand (suc (suc m)) p v high at = one_hand p m v at
+
+  -- the slot that an end has, and what is in it once something was put there
+  pub has_slot : (m : Seated J) (v : DeskView J) (x : Option J) → m ≡ (v, (0, x) ∷ []) → m.1 ≡ (0, x) ∷ rest m.1
+  has_slot m v x is = ap (λ (k : Seated J). k.1) is ∙ ap (λ (k : Seated J). (0, x) ∷ rest k.1) (sym is)
+
+  pub exchanged : (m n : Seated J) (v : DeskView J) (x y : Option J) → m ≡ (v, (0, x) ∷ []) → n ≡ (m.0, (0, y) ∷ rest m.1) → n ≡ (v, (0, y) ∷ [])
+  exchanged m n v x y is after = after ∙ ap (λ (k : Seated J). (k.0, (0, y) ∷ rest k.1)) is
+
+  -- what the caller knows once it has laid a job down
+  pub laid : (m n : Seated J) (j : J) → m ≡ (Free, (0, Some j) ∷ []) → LaysJob m n → WaitsFor j n
+  laid m n j is = subst (λ (k : Seated J). LaysJob k n) is
 
   -- nothing lies on a desk that an end has left
   home_left : (id : ℕ) (p : Phase J) → get_elem? (views_in p) id ≡ some Left → home_in p ≡ some None
@@ -130,6 +151,13 @@ module _ {J : Type 0} where
     by_hand slots id me f then high each = by_phase slots id me f then (λ p fit at.
         let here = at_hand id p me.0 high at in
         subst (λ (i : ℕ). Goes (phase_state p) i me f then) (sym here.0) (each p fit here.1))
+
+    -- what an end has that found its turn
+    pub found : (m n : Seated J) (r : ℕ) → r ≡ 1 → FindsJob ready m r n → (j : J) × (n ≡ (Working j, (0, Some j) ∷ [])) × ready j
+    found m n r is = subst (λ (k : ℕ). FindsJob ready m k n) is
+
+    pub got : (m n : Seated J) (r : ℕ) → r ≡ 2 → TakesBack did m r n → (k : J) × (n ≡ (Free, (0, Some k) ∷ [])) × ((j : J) → WaitsFor j m → did j k)
+    got m n r is = subst (λ (k : ℕ). TakesBack did m k n) is
 
     -- the hand looks for a job
     nothing_came : (m : Seated J) (n : ℕ) → n ≢ 1 → n ≢ 3 → FindsJob ready m n m
@@ -211,9 +239,12 @@ module _ {J : Type 0} where
     take_in j over fit at = differ Left (Waiting j) (omega arith) at
     take_in j ended fit at = differ Left (Waiting j) (omega arith) at
 
-    pub comes : (slots id : ℕ) (me : Seated J) (j : J) → WaitsFor j me → Allows (IsDeskKept ready did) slots id me 0 (λ n. n) (TakesBack did me)
-    comes slots id me j is = subst (λ (m : Seated J). Allows (IsDeskKept ready did) slots id m 0 (λ n. n) (TakesBack did m)) (sym is)
+    comes_to : (slots id : ℕ) (me : Seated J) (j : J) → WaitsFor j me → Allows (IsDeskKept ready did) slots id me 0 (λ n. n) (TakesBack did me)
+    comes_to slots id me j is = subst (λ (m : Seated J). Allows (IsDeskKept ready did) slots id m 0 (λ n. n) (TakesBack did m)) (sym is)
         (by_caller slots id (Waiting j, []) (λ n. n) (TakesBack did (Waiting j, [])) (omega arith) (take_in j))
+
+    pub comes : (slots id : ℕ) (me : Seated J) → WaitsForSome me → Allows (IsDeskKept ready did) slots id me 0 (λ n. n) (TakesBack did me)
+    comes slots id me waits = let job = awaited me.0 waits.0 in comes_to slots id me job.0 (λ i. (job.1 i, waits.1 i))
 
     -- the caller takes the slot for the first time
     begin_in : (p : Phase J) → IsSoundPhase ready did p → some (caller_in p) ≡ some Fresh

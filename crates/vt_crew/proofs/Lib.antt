@@ -1,1 +1,2 @@
 mod DeskSteps
+mod JobLists

@@ -1,8 +1,8 @@
 -- What an end of a desk knows and has in hand.
-use Rattle.std.specs.Prelude.{◌≡◌, ℕ, List, [], ◌∷◌, Option, Some, None}
+use Rattle.std.specs.Prelude.{◌≡◌, Bool, true, false, [], ◌∷◌, Option, None}
 use Rattle.atomic_table.specs.Table.{Me}
 use Rattle.vt_crew.specs.declared.views.DeskView.{DeskView}
-use Rattle.vt_crew.specs.declared.views.DeskView.TheVariants.{Free, Waiting, Idle, Working, Left}
+use Rattle.vt_crew.specs.declared.views.DeskView.TheVariants.{Alone, Fresh, Free, Waiting, Idle, Working, Left}
 
 -- an end: its view, and the slot that it has with what is in it
 abbrev pub Seated : Type 0 → Type 0
@@ -16,6 +16,20 @@ module _ {J : Type 0} where
   -- the caller waits for a job
   abbrev pub WaitsFor : J → Seated J → Type 0
   WaitsFor j m = m ≡ (Waiting j, [])
+
+  -- whether it is the view of a caller who waits
+  abbrev pub is_waiting : DeskView J → Bool
+  is_waiting Alone = false
+  is_waiting Fresh = false
+  is_waiting Free = false
+  is_waiting (Waiting j) = true
+  is_waiting Idle = false
+  is_waiting (Working j) = false
+  is_waiting Left = false
+
+  -- the caller waits for some job
+  abbrev pub WaitsForSome : Seated J → Type 0
+  WaitsForSome m = (is_waiting m.0 ≡ true) × (m.1 ≡ [])
 
   -- the hand has no job
   abbrev pub IsIdleEnd : Seated J → Type 0

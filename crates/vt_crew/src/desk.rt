@@ -2,7 +2,7 @@
 
 ghost use Rattle.std.specs.Prelude.{◌≡◌, MatchOption};
 ghost use Rattle.std.specs.Arc.{arc_value};
-ghost use Rattle.vt_crew.specs.DeskEnds.{HasLeftDesk, IsFreeEnd, IsIdleEnd, WaitsFor};
+ghost use Rattle.vt_crew.specs.DeskEnds.{HasLeftDesk, IsFreeEnd, IsIdleEnd, WaitsFor, WaitsForSome};
 ghost use Rattle.vt_crew.specs.Pendings.{IsJobOf};
 
 use crate::board::{Chair, DONE, DeskTop, HAND, NOBODY, OVER};
@@ -109,7 +109,7 @@ pub(crate) fn give_up<J: Work>(top: Arc<DeskTop<J>>, chair: Chair<J>)
 // Takes the job back if it was done.
 fn take_done<J: Work>(top: &DeskTop<J>, chair: &mut Chair<J>) -> Option<J>
     requires fits { chair.old.table_id ≡ top.now.board.shared.table_id }
-    requires waits { (job : J) × WaitsFor job chair.old.me }
+    requires waits { WaitsForSome chair.old.me }
     ensures fits { chair.new.table_id ≡ chair.old.table_id }
     ensures job { MatchOption result (chair.new.me ≡ chair.old.me)
         (λ back. IsFreeEnd chair.new.me × ((job : J) → WaitsFor job chair.old.me → J.did job back)) }
@@ -125,7 +125,7 @@ fn take_done<J: Work>(top: &DeskTop<J>, chair: &mut Chair<J>) -> Option<J>
 // Waits until the job was done, and takes it back.
 fn wait_for<J: Work, Rt: Wait>(rt: &Rt, top: &DeskTop<J>, chair: &mut Chair<J>) -> J
     requires fits { chair.old.table_id ≡ top.now.board.shared.table_id }
-    requires waits { (job : J) × WaitsFor job chair.old.me }
+    requires waits { WaitsForSome chair.old.me }
     ensures fits { chair.new.table_id ≡ chair.old.table_id }
     ensures free { IsFreeEnd chair.new.me }
     ensures did { (job : J) → WaitsFor job chair.old.me → J.did job result }

@@ -2,7 +2,7 @@
 
 ghost use Rattle.std.specs.Prelude.{◌≡◌};
 ghost use Rattle.std.specs.Arc.{arc_value};
-ghost use Rattle.vt_crew.specs.DeskEnds.{IsFreeEnd, IsIdleEnd, WaitsFor};
+ghost use Rattle.vt_crew.specs.DeskEnds.{IsFreeEnd, IsIdleEnd, WaitsForSome};
 
 use crate::board::{Chair, DeskTop};
 use crate::work::Work;
@@ -21,7 +21,7 @@ pub struct Pending<J: Work> {
     pub(crate) top: Arc<DeskTop<J>>,
     pub(crate) chair: Chair<J>,
     pub(crate) ghost fits: { chair.table_id ≡ (arc_value top).board.shared.table_id },
-    pub(crate) ghost awaited: { (job : J) × WaitsFor job chair.me },
+    pub(crate) ghost waits: { WaitsForSome chair.me },
 }
 
 /// The hand's end of a desk, at which it has no job.
