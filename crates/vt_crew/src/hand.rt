@@ -47,8 +47,17 @@ fn find_job<J: Work>(top: &DeskTop<J>, chair: &mut Chair<J>) -> Found<J>
     }
 }
 
+// Does a job.
+fn do_job<J: Work, Rt: Threads + Wait>(rt: &Rt, mut job: J) -> J
+    requires { J.ready job }
+    ensures { J.did job result }
+{
+    job.work(rt);
+    job
+}
+
 // Does a job, and lays it back.
-fn finish<J: Work, Rt: Threads + Wait>(rt: &Rt, top: &DeskTop<J>, chair: &mut Chair<J>, mut job: J)
+fn finish<J: Work, Rt: Threads + Wait>(rt: &Rt, top: &DeskTop<J>, chair: &mut Chair<J>, job: J)
     requires fits { chair.old.table_id ≡ top.now.board.shared.table_id }
     requires has { HasJob job chair.old.me }
     requires ready { J.ready job }
@@ -56,8 +65,8 @@ fn finish<J: Work, Rt: Threads + Wait>(rt: &Rt, top: &DeskTop<J>, chair: &mut Ch
     ensures idle { IsIdleEnd chair.new.me }
 {
     let board = &top.board.shared;
-    job.work(rt);
-    match board.exchange(chair, 0, Some(job)) {
+    let done = do_job(rt, job);
+    match board.exchange(chair, 0, Some(done)) {
         None => {}
         Some(_) => unreachable!(),
     }

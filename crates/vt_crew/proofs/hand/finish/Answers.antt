@@ -6,5 +6,6 @@ pub store-requires : goal.store-requires
 store-requires g c = (
   search rules,
   search rules,
-  tells g.J.Work.ready g.J.Work.did _ _ _ c.args.job c.work.new.self (exchanged _ _ _ _ _ c.requires.has c.exchange.ensures.3) c.work.ensures,
+  tells g.J.Work.ready g.J.Work.did _ _ _ c.args.job c.do_job-done.result (exchanged _ _ _ _ _ c.requires.has c.exchange.ensures.3)
+      c.do_job-done.ensures,
 )
