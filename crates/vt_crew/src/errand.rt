@@ -18,14 +18,14 @@ pub trait Errand<J: Work> {
     /// What it was and what it is, once it was run.
     ghost did: { Self → Self → Type 0 };
 
-    /// Runs it. It may wait.
-    fn run<Rt: Threads + Wait + Sync>(&mut self, rt: &Rt, desks: &mut Desks<J>)
+    /// Runs it. It may wait. It makes no threads of its own: what a method of an implementation sends to a thread may rest on no bound.
+    fn run<Rt: Threads + Wait>(&mut self, rt: &Rt, desks: &mut Desks<J>)
         requires { ready self.old }
         ensures { did self.old self.new };
 }
 
 // Runs an errand, and ends the desks.
-fn run_and_dismiss<Rt: Threads + Wait + Sync, J: Work, W: Errand<J>>(
+fn run_and_dismiss<Rt: Threads + Wait, J: Work, W: Errand<J>>(
     rt: &Rt,
     desks: &mut Desks<J>,
     errand: &mut W,

@@ -61,7 +61,7 @@ impl<'a> Errand<Meeting<'a>> for Rounds<'a> {
 
     ghost did = { λ before after. Unit {0} };
 
-    fn run<Rt: Threads + Wait + Sync>(&mut self, rt: &Rt, desks: &mut Desks<Meeting<'a>>) {
+    fn run<Rt: Threads + Wait>(&mut self, rt: &Rt, desks: &mut Desks<Meeting<'a>>) {
         for _ in 0..TURNS {
             if desks.are_served() {
                 break;
