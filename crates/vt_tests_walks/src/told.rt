@@ -46,6 +46,20 @@ fn is_of(bytes: &[u8], text: &[u8], versions: &[(u8, u8)]) -> bool {
     true
 }
 
+// The place of the version in a turn.
+fn place_of(text: &[u8], turn: usize) -> Option<usize> {
+    let mut left = turn;
+    for i in 0..text.len() {
+        if text[i] == b'?' {
+            if left == 0 {
+                return Some(i);
+            }
+            left = left.wrapping_sub(1);
+        }
+    }
+    None
+}
+
 impl Told<'_> {
     /// Whether bytes are such a journal.
     pub fn is(&self, bytes: &[u8]) -> bool {
@@ -57,23 +71,9 @@ impl Told<'_> {
         count <= self.text.len() && is_of(bytes, &self.text[..count], self.versions)
     }
 
-    // The place of the version in a turn.
-    fn place_of(&self, turn: usize) -> Option<usize> {
-        let mut past: usize = 0;
-        for i in 0..self.text.len() {
-            if self.text[i] == b'?' {
-                if past == turn {
-                    return Some(i);
-                }
-                past = past.wrapping_add(1);
-            }
-        }
-        None
-    }
-
     /// How far the version in a turn of such a journal is above the least one that it may be.
     pub fn above_least(&self, bytes: &[u8], turn: usize) -> Option<usize> {
-        let at = self.place_of(turn)?;
+        let at = place_of(self.text, turn)?;
         let digit = bytes.get(at)?;
         let pair = self.versions.get(turn)?;
         above_least(*pair, *digit)

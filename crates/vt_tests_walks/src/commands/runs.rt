@@ -68,10 +68,12 @@ impl Scene {
 
 // No failing call, or one.
 fn one_fail(alloc: Global, fail: Option<Fail>) -> Result<Fails, NoMemory> {
-    match fail {
-        Some(fail) => Fails::from_slice(alloc, &[fail]),
-        None => Ok(Fails::new(alloc)),
+    let mut fails = Fails::new(alloc);
+    if let Some(fail) = fail {
+        fails.reserve(1)?;
+        fails.push(fail);
     }
+    Ok(fails)
 }
 
 // The words of a text, with blanks between them.

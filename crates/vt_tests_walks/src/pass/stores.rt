@@ -35,13 +35,11 @@ pub fn open_with_root<D: Folder>(
 {
     let mut store = open_store(rt, folder, name);
     let geometry = store.geometry();
-    assert!(rt;
-        geometry.tile() == 2
-            && geometry.page_count() == 5
-            && store.depth() == 1
-            && store.reserve(1).is_ok()
-            && store.read_tile(4, tile).is_ok()
-    );
+    assert!(rt; geometry.tile() == 2);
+    assert!(rt; geometry.page_count() == 5);
+    assert!(rt; store.depth() == 1);
+    assert!(rt; store.reserve(1).is_ok());
+    assert!(rt; store.read_tile(4, tile).is_ok());
     store
 }
 
