@@ -1,9 +1,11 @@
-//! The tests of the crates that make the cache, from the journal and the counts of wanted pages to the loaders of tiles. It holds nothing
-//! else, and nothing depends on it: a crate with tests is proved twice, and this one costs nothing beside them.
+//! The tests of the crates that make the cache, from the journal and the counts of wanted pages to the loaders of tiles, and of crews of threads.
+//! It holds nothing else, and nothing depends on it: a crate with tests is proved twice, and this one costs nothing beside them.
 #![tactic(auto)]
 
 #[cfg(test)]
 mod checks;
+#[cfg(test)]
+mod crew;
 #[cfg(test)]
 mod evict;
 #[cfg(test)]

@@ -1,0 +1,2 @@
+mod DeskSteps
+mod JobLists

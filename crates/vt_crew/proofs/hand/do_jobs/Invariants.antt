@@ -1,0 +1,8 @@
+use Rattle.std.proofs.Common.{◌≡◌}
+use Rattle.vt_crew.specs.DeskEnds.{IsIdleEnd}
+use Rattle.vt_crew.proofs.hand.do_jobs.Given as goal
+
+abbrev pub invariant-loop : goal.invariant-loop
+invariant-loop g l =
+    (goal.iterator-loop g).can_next l.iterator' × (goal.iterator-loop g).is_finite l.iterator' × (l.chair.table_id ≡ l.initial.chair.table_id)
+    × IsIdleEnd l.chair.me

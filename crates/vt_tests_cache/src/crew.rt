@@ -1,0 +1,112 @@
+//! Jobs of a crew.
+
+use crate::checks::holds;
+use std::alloc::{AllocError, Global};
+use std::sync::Wait;
+use std::sync::atomic::AtomicU64;
+use std::sync::atomic::Ordering::SeqCst;
+use std::thread;
+use std::thread::Threads;
+use vt_crew::{Desks, Errand, Work, run_with_crew};
+
+// How often a job looks for others, and an errand for hands, before it goes on all the same.
+const TURNS: u32 = 50_000_000;
+
+// The jobs of a round.
+const JOBS: u64 = 4;
+
+// A job that counts how often it was done, and waits each time until so many jobs were begun that often.
+#[derive(Drop)]
+struct Meeting<'a> {
+    times: u64,
+    others: u64,
+    begun: &'a AtomicU64,
+    // Whether it waited in vain.
+    is_late: bool,
+}
+
+impl<'a> Work for Meeting<'a> {
+    ghost ready = { λ meeting. Unit {0} };
+
+    ghost did = { λ before after. Unit {0} };
+
+    fn work<Rt: Threads + Wait>(&mut self, _rt: &Rt) {
+        self.begun.fetch_add(1, SeqCst);
+        self.times = self.times.wrapping_add(1);
+        if !comes_to(self.begun, self.others.wrapping_mul(self.times)) {
+            self.is_late = true;
+        }
+    }
+}
+
+// Whether a count comes to so much in time.
+fn comes_to(count: &AtomicU64, least: u64) -> bool {
+    for _ in 0..TURNS {
+        if count.load(SeqCst) >= least {
+            return true;
+        }
+        thread::yield_now();
+    }
+    false
+}
+
+// Two rounds of the same jobs, once the hands are there.
+#[derive(Drop)]
+struct Rounds<'a> {
+    jobs: Vec<Meeting<'a>>,
+}
+
+impl<'a> Errand<Meeting<'a>> for Rounds<'a> {
+    ghost ready = { λ rounds. Unit {0} };
+
+    ghost did = { λ before after. Unit {0} };
+
+    fn run<Rt: Threads + Wait>(&mut self, rt: &Rt, desks: &mut Desks<Meeting<'a>>) {
+        for _ in 0..TURNS {
+            if desks.are_served() {
+                break;
+            }
+            thread::yield_now();
+        }
+        desks.work_all(rt, &mut self.jobs);
+        desks.work_all(rt, &mut self.jobs);
+    }
+}
+
+// Whether the jobs of two rounds by so many hands were each done twice, and each found so many begun in time.
+fn are_done<Rt: Threads + Wait + Sync>(
+    rt: &Rt,
+    alloc: Global,
+    hands: usize,
+    others: u64,
+) -> Result<bool, AllocError> {
+    let begun = AtomicU64::new(0);
+    let mut rounds = Rounds {
+        jobs: Vec::new(alloc),
+    };
+    for _ in 0..JOBS {
+        rounds.jobs.push(Meeting {
+            times: 0,
+            others,
+            begun: &begun,
+            is_late: false,
+        })?;
+    }
+    run_with_crew(rt, alloc, hands, &mut rounds);
+    for job in rounds.jobs.as_slice() {
+        if job.times != 2 || job.is_late {
+            return Ok(false);
+        }
+    }
+    Ok(begun.load(SeqCst) == 2 * JOBS)
+}
+
+#[test]
+fn three_hands_and_their_caller_do_four_jobs_at_once_and_once_more(rt: HostRuntime) {
+    holds(&rt, are_done(&rt, rt.alloc(), 3, JOBS).ok() == Some(true));
+}
+
+#[test]
+fn a_caller_with_no_hand_does_all_jobs_itself(rt: HostRuntime) {
+    holds(&rt, are_done(&rt, rt.alloc(), 0, 1).ok() == Some(true));
+}
