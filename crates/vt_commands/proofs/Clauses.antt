@@ -9,7 +9,7 @@ use Rattle.vt_command_inputs.specs.Causes.{Cause, MissingName, FlawedInput, caus
 use Rattle.vt_command_inputs.specs.Tasks.{HasBadInput}
 use Rattle.vt_command_inputs.specs.CommandSpecs.{CommandSpec, Conflict, FlawedBeside, ManyTexels, FewFrames, LargePicture, conflict_status, IsInConflict, HasFaultBy, HasBadInputBy, EndsBy}
 use Rattle.vt_command_inputs.specs.Lines.{memory_line, fault_line}
-use Rattle.vt_command_inputs.specs.Refusals.{status_of, Printed, EndPrinted, refusal_of_words}
+use Rattle.vt_command_inputs.specs.Refusals.{status_of, refusal_status, refusal_line, Printed, EndPrinted, refusal_of_words}
 use Rattle.vt_commands.specs.Runs.{Run, Asks, NamesNoCommand, RunDone, RunLeft, RunAsked, RunFault, RunBadInput, RunInConflict, RunCaused, RunStopped, RunComplete, IsRun}
 use Rattle.vt_commands.specs.Words.{CommandText, command_text}
 use Rattle.vt_command_words.specs.declared.arguments.WordsError.{WordsError}
@@ -356,3 +356,10 @@ is_run run T r h printed = record {
   usage_printed = usage_printed_of T r run.err printed;
   fault_printed = fault_printed_of T r run.err printed;
 }
+
+-- a run whose words were refused at once
+pub run_unread : (run : Run) (status : ℕ) (e : WordsError) → HasNoEffect run.call_effect → (e ≡ words_error.Usage → IsNone (command_text run.words))
+    → status ≡ refusal_status (refusal_of_words e) → Printed (refusal_line usage_line (refusal_of_words e)) run.err → IsRun run status
+run_unread run status e idle none is printed =
+    subst (IsRun run) (sym is)
+    (is_run run (Unit {0}) (Err (refusal_of_words e)) (runs_unread run.machines (Unit {0}) run.words run.call_effect e idle none) printed)

@@ -111,83 +111,89 @@ pub is_waiting : (words : List (List ℕ)) → may_wait words ≡ true → (comm
 is_waiting [] is command asks = absurd (false≢true is)
 is_waiting (name ∷ words) is command asks = named_waiting name (name ∷ words) command (one_of _ _ is) asks
 
--- what holds of the specification of a command that does not wait holds of it by any machine
-carried : (m n : Machines) (F : CommandSpec → Type 0) (command : CommandText) → (MayWait command → ⊥) → F (spec_of m command) → F (spec_of n command)
-carried m n F (OfStore asked) free x = x
-carried m n F (OfWalk (ReplayCommand words)) free x = x
-carried m n F (OfWalk (WalkCommand words)) free x = absurd (free tt)
-carried m n F (OfWalk (TrialCommand words)) free x = absurd (free tt)
+-- the specification of a command that does not wait is the same by any machine
+free_alike : (m n : Machines) (command : CommandText) → IsFree command → spec_of m command ≡ spec_of n command
+free_alike m n (OfStore asked) free = refl
+free_alike m n (OfWalk (ReplayCommand words)) free = refl
+free_alike m n (OfWalk (WalkCommand words)) free = absurd (free tt)
+free_alike m n (OfWalk (TrialCommand words)) free = absurd (free tt)
+
+-- by other machines the specification of what a run's words ask for is the same
+abbrev pub AreAlike : Machines → Run → Type 1
+AreAlike n run = (command : CommandText) → Asks run.words command → spec_of run.machines command ≡ spec_of n command
 
 -- the same run by other machines
 abbrev pub by_others : Machines → Run → Run
 by_others machines run = record run { machines = machines }
 
-in_conflict_by : (n : Machines) (run : Run) (status : ℕ) → may_wait run.words ≡ false → RunInConflict run status → RunInConflict (by_others n run) status
-in_conflict_by n run status never h = record {
+in_conflict_by : (n : Machines) (run : Run) (status : ℕ) → AreAlike n run → RunInConflict run status → RunInConflict (by_others n run) status
+in_conflict_by n run status alike h = record {
   command = h.command;
   asks = h.asks;
   conflict = h.conflict;
   comes = h.comes;
-  met = carried run.machines n (λ spec. IsInConflict spec run.call_effect h.conflict) h.command (is_at_once run.words never h.command h.asks) h.met;
+  met = subst (λ (spec : CommandSpec). IsInConflict spec run.call_effect h.conflict) (alike h.command h.asks) h.met;
   printed = h.printed;
 }
 
-usage_by : (n : Machines) (run : Run) → may_wait run.words ≡ false → NamesNoCommand run.words ⊎ RunInConflict run 2
+usage_by : (n : Machines) (run : Run) → AreAlike n run → NamesNoCommand run.words ⊎ RunInConflict run 2
     → NamesNoCommand run.words ⊎ RunInConflict (by_others n run) 2
-usage_by n run never (inl none) = inl none
-usage_by n run never (inr h) = inr (in_conflict_by n run 2 never h)
+usage_by n run alike (inl none) = inl none
+usage_by n run alike (inr h) = inr (in_conflict_by n run 2 alike h)
 
-bad_input_by : (n : Machines) (run : Run) → may_wait run.words ≡ false → RunBadInput run → RunBadInput (by_others n run)
-bad_input_by n run never b = record {
+bad_input_by : (n : Machines) (run : Run) → AreAlike n run → RunBadInput run → RunBadInput (by_others n run)
+bad_input_by n run alike b = record {
   command = b.command;
   asks = b.asks;
   name = b.name;
   flaw = b.flaw;
-  bad = carried run.machines n (λ spec. HasBadInputBy spec run.call_effect b.name b.flaw) b.command (is_at_once run.words never b.command b.asks) b.bad;
+  bad = subst (λ (spec : CommandSpec). HasBadInputBy spec run.call_effect b.name b.flaw) (alike b.command b.asks) b.bad;
   printed = b.printed;
 }
 
-caused_by : (n : Machines) (run : Run) (status : ℕ) → may_wait run.words ≡ false → RunCaused run status → RunCaused (by_others n run) status
-caused_by n run status never r = λ p cause asks.
-    carried run.machines n (λ spec. (spec.failed run.call_effect → ⊥) → IsFirstCause run.call_effect.folder.before.files spec.inputs cause
-    → (status ≡ cause_status cause) ⊎ (status ≡ 1))
-    p (is_at_once run.words never p asks) (λ none first. r p cause asks none first)
+caused_by : (n : Machines) (run : Run) (status : ℕ) → AreAlike n run → RunCaused run status → RunCaused (by_others n run) status
+caused_by n run status alike r = λ p cause asks.
+    subst (λ (spec : CommandSpec). (spec.failed run.call_effect → ⊥) → IsFirstCause run.call_effect.folder.before.files spec.inputs cause
+    → (status ≡ cause_status cause) ⊎ (status ≡ 1)) (alike p asks) (λ none first. r p cause asks none first)
 
-stopped_by : (n : Machines) (run : Run) (status : ℕ) → may_wait run.words ≡ false → RunStopped run status → RunStopped (by_others n run) status
-stopped_by n run status never r = λ p contents conflict asks.
-    carried run.machines n (λ spec. (spec.failed run.call_effect → ⊥) → AreHeld run.call_effect.folder.before.files spec.inputs contents
-    → spec.conflicts contents conflict → (status ≡ conflict_status conflict) ⊎ (status ≡ 1))
-    p (is_at_once run.words never p asks) (λ none held conflicts. r p contents conflict asks none held conflicts)
+stopped_by : (n : Machines) (run : Run) (status : ℕ) → AreAlike n run → RunStopped run status → RunStopped (by_others n run) status
+stopped_by n run status alike r = λ p contents conflict asks.
+    subst (λ (spec : CommandSpec). (spec.failed run.call_effect → ⊥) → AreHeld run.call_effect.folder.before.files spec.inputs contents
+    → spec.conflicts contents conflict → (status ≡ conflict_status conflict) ⊎ (status ≡ 1)) (alike p asks) (λ none held conflicts. r p contents conflict asks none held conflicts)
 
-complete_by : (n : Machines) (run : Run) (status : ℕ) → may_wait run.words ≡ false → RunComplete run status → RunComplete (by_others n run) status
-complete_by n run status never r = λ p contents asks.
-    carried run.machines n (λ spec. (spec.failed run.call_effect → ⊥) → AreHeld run.call_effect.folder.before.files spec.inputs contents
-    → ((conflict : Conflict) → spec.conflicts contents conflict → ⊥) → (status ≡ 0) ⊎ (status ≡ 1))
-    p (is_at_once run.words never p asks) (λ none held met. r p contents asks none held met)
+complete_by : (n : Machines) (run : Run) (status : ℕ) → AreAlike n run → RunComplete run status → RunComplete (by_others n run) status
+complete_by n run status alike r = λ p contents asks.
+    subst (λ (spec : CommandSpec). (spec.failed run.call_effect → ⊥) → AreHeld run.call_effect.folder.before.files spec.inputs contents
+    → ((conflict : Conflict) → spec.conflicts contents conflict → ⊥) → (status ≡ 0) ⊎ (status ≡ 1)) (alike p asks) (λ none held met. r p contents asks none held met)
 
--- a run that does not wait is one by any machine
-pub by_any : (n : Machines) (run : Run) (status : ℕ) → may_wait run.words ≡ false → IsRun run status → IsRun (by_others n run) status
-by_any n run status never r = record {
+-- a run is one by all machines that are alike for its words
+pub by_alike : (n : Machines) (run : Run) (status : ℕ) → AreAlike n run → IsRun run status → IsRun (by_others n run) status
+by_alike n run status alike r = record {
   statuses = r.statuses;
   done = λ s.
       let d = r.done s in
-      (d.0, d.1, carried run.machines n (λ spec. DoneBy spec run.call_effect) d.0 (is_at_once run.words never d.0 d.1) d.2);
-  left = λ s p asks. carried run.machines n (λ spec. LeftBySpec spec run.call_effect) p (is_at_once run.words never p asks) (r.left s p asks);
+      (d.0, d.1, subst (λ (spec : CommandSpec). DoneBy spec run.call_effect) (alike d.0 d.1) d.2);
+  left = λ s p asks. subst (λ (spec : CommandSpec). LeftBySpec spec run.call_effect) (alike p asks) (r.left s p asks);
   untouched = r.untouched;
-  asked = λ p asks. carried run.machines n (λ spec. spec.asks run.call_effect) p (is_at_once run.words never p asks) (r.asked p asks);
+  asked = λ p asks. subst (λ (spec : CommandSpec). spec.asks run.call_effect) (alike p asks) (r.asked p asks);
   idle = r.idle;
-  usage = λ s. usage_by n run never (r.usage s);
+  usage = λ s. usage_by n run alike (r.usage s);
   no_command = r.no_command;
   fault = λ s.
       let f = r.fault s in
-      (f.0, f.1, carried run.machines n (λ spec. HasFaultBy spec run.call_effect) f.0 (is_at_once run.words never f.0 f.1) f.2);
-  bad_input = λ s. bad_input_by n run never (r.bad_input s);
-  in_conflict = λ s. in_conflict_by n run 5 never (r.in_conflict s);
-  caused = caused_by n run status never r.caused;
-  stopped = stopped_by n run status never r.stopped;
-  complete = complete_by n run status never r.complete;
+      (f.0, f.1, subst (λ (spec : CommandSpec). HasFaultBy spec run.call_effect) (alike f.0 f.1) f.2);
+  bad_input = λ s. bad_input_by n run alike (r.bad_input s);
+  in_conflict = λ s. in_conflict_by n run 5 alike (r.in_conflict s);
+  caused = caused_by n run status alike r.caused;
+  stopped = stopped_by n run status alike r.stopped;
+  complete = complete_by n run status alike r.complete;
   silent = r.silent;
   memory_printed = r.memory_printed;
   usage_printed = r.usage_printed;
   fault_printed = r.fault_printed;
 }
+
+-- a run that does not wait is one by any machine
+pub by_any : (n : Machines) (run : Run) (status : ℕ) → may_wait run.words ≡ false → IsRun run status → IsRun (by_others n run) status
+by_any n run status never r =
+    by_alike n run status (λ command asks. free_alike run.machines n command (is_at_once run.words never command asks)) r

@@ -3,12 +3,13 @@
 ghost use Rattle.std.specs.Prelude.{◌≡◌, Some, IfOk, IsErr, IsErrOf, IsNone};
 ghost use Rattle.vt_command_words.specs.Arguments.{texts};
 ghost use Rattle.vt_command_words.specs.Reading.{IsReadAnswer};
+ghost use Rattle.vt_commands.specs.Choices.{choice_in};
 ghost use Rattle.vt_commands.specs.Words.{is_walking_name, named_text, command_text, command_of, shown_words, HasLawfulNumbers};
 
 use std::alloc::Global;
 use vt_command_words::{
-    ReplayWords, TrialWords, WalkWords, WalkingCommand, WordsError, read_walking_command,
-    walking_kind_of,
+    MachineChoice, ReplayWords, TrialWords, WalkWords, WalkingCommand, WordsError,
+    read_walking_command, walking_kind_of,
 };
 use vt_walk_commands::{StoreCommand, read_store_command};
 
@@ -71,5 +72,15 @@ fn command_of<'a>(walking: WalkingCommand<'a>) -> Command<'a>
         WalkingCommand::Replay(words) => Command::Replay(words),
         WalkingCommand::Walk(words) => Command::Walk(words),
         WalkingCommand::Trial(words) => Command::Trial(words),
+    }
+}
+
+/// The machine that the words of a command choose: the standard one where it draws by none of them.
+pub fn choice_of(command: &Command<'_>) -> MachineChoice
+    ensures { result ≡ choice_in (shown_words command.now) }
+{
+    match command {
+        Command::Walk(words) => words.machine,
+        Command::Store(_) | Command::Replay(_) | Command::Trial(_) => MachineChoice::Standard,
     }
 }

@@ -6,8 +6,8 @@ mod choice;
 mod command;
 mod waiting;
 
-pub use at_once::{may_wait, run_at_once};
-pub use command::{Command, read_command};
+pub use at_once::{may_wait, refuse_unread, run_at_once};
+pub use command::{Command, choice_of, read_command};
 pub use vt_walk_commands::{
     Bilinear, BlendMachine, Machines, PassMachine, StealMachine, SwapMachine, WordMachine,
     usage_line, walk_live, walk_settled,

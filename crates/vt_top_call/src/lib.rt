@@ -4,9 +4,9 @@
 mod machine_set;
 mod top_call;
 
-pub use machine_set::run_by;
+pub use machine_set::{run_by, run_one};
 pub use top_call::run;
 pub use vt_commands::{
-    Bilinear, BlendMachine, Command, StealMachine, SwapMachine, WordMachine, may_wait,
-    read_command, run_at_once, usage_line, walk_live, walk_settled,
+    Bilinear, BlendMachine, Command, StealMachine, SwapMachine, WordMachine, choice_of, may_wait,
+    read_command, refuse_unread, run_at_once, usage_line, walk_live, walk_settled,
 };

@@ -74,3 +74,26 @@ pub fn run_by<
         rt, alloc, words, folder, out, err, gate,
     )
 }
+
+/// Does what `run` does by machines of one type, whatever the words of a walk choose.
+pub fn run_one<
+    M: PassMachine<File = D::File> + Send,
+    Rt: Threads + Wait + Sync,
+    D: Folder,
+    O: Sink,
+    E: Sink,
+    G: Gate + Sync,
+>(
+    rt: &Rt,
+    alloc: Global,
+    words: &[String],
+    folder: &mut D,
+    out: &mut O,
+    err: &mut E,
+    gate: &G,
+) -> u8
+    ensures { IsRun (run_of (machines_of (kind_of M.PassMachine) (kind_of M.PassMachine) (kind_of M.PassMachine)
+        (kind_of M.PassMachine)) D.Folder O.Sink E.Sink (texts words.now) folder.old folder.new out.old out.new err.old err.new) result }
+{
+    run_by::<M, M, M, M, Rt, D, O, E, G>(rt, alloc, words, folder, out, err, gate)
+}

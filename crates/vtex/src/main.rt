@@ -5,7 +5,8 @@ ghost use Rattle.std.specs.Prelude.{◌≡◌};
 ghost use Rattle.std.specs.IoError.{error_kind};
 ghost use Rattle.vt_command_inputs.specs.Refusals.{unread_refusal};
 ghost use Rattle.vt_command_words.specs.Arguments.{texts};
-ghost use Rattle.vt_top_call.specs.Runs.{run_of, IsRun};
+ghost use Rattle.vt_top_call.specs.Runs.{run_of, Asks, IsRun};
+ghost use Rattle.vt_top_call.specs.Words.{shown_words};
 ghost use Rattle.vt_top_call.specs.Machines.{machines_of, kind_of};
 ghost use Rattle.vtex.specs.Here.{DrawsHere};
 
@@ -16,12 +17,14 @@ use std::sync::Wait;
 use std::thread::Threads;
 use std::{env, io};
 use vt_command_inputs::Refusal;
+use vt_command_words::MachineChoice;
 use vt_machine::PassMachine;
 use vt_outside::{Folder, Gate, OpenGate, RealFolder, RealSink, Sink};
 use vt_pictures::{Filter, Nearest};
 pub use vt_top_call::run;
 use vt_top_call::{
-    Bilinear, BlendMachine, StealMachine, SwapMachine, WordMachine, run_by, usage_line,
+    Bilinear, BlendMachine, Command, StealMachine, SwapMachine, WordMachine, choice_of,
+    read_command, refuse_unread, run_one, usage_line,
 };
 
 // The words after the program's name.
@@ -43,8 +46,40 @@ fn unread(error: &io::Error) -> Refusal<'static>
     }
 }
 
-// Does what the words say, as `run` of vt_top_call does, by the machines of this program: a walk draws the nearest texel over
-// shared words with its rows dealt to the samplers, but where its words ask for the swapped table, for shared rows, or for blends.
+// Does the command that the words ask for: a walk draws the nearest texel over shared words with its rows dealt to the samplers, but where
+// its words ask for the swapped table, for shared rows, or for blends. A call by all four machines would pass the limit of the proof's steps.
+fn run_chosen<Rt: Threads + Wait + Sync, D: Folder, O: Sink, E: Sink, G: Gate + Sync>(
+    rt: &Rt,
+    alloc: Global,
+    words: &[String],
+    command: &Command<'_>,
+    folder: &mut D,
+    out: &mut O,
+    err: &mut E,
+    gate: &G,
+) -> u8
+    requires { Asks (texts words.now) (shown_words command.now) }
+    ensures { IsRun (run_of (machines_of (kind_of ⟦<WordMachine<D::File> as PassMachine>⟧) (kind_of ⟦<SwapMachine<D::File> as PassMachine>⟧)
+        (kind_of ⟦<StealMachine<D::File> as PassMachine>⟧) (kind_of ⟦<BlendMachine<D::File> as PassMachine>⟧)) D.Folder O.Sink E.Sink
+        (texts words.now) folder.old folder.new out.old out.new err.old err.new) result }
+{
+    match choice_of(command) {
+        MachineChoice::Standard => run_one::<WordMachine<D::File>, Rt, D, O, E, G>(
+            rt, alloc, words, folder, out, err, gate,
+        ),
+        MachineChoice::SwappedTable => run_one::<SwapMachine<D::File>, Rt, D, O, E, G>(
+            rt, alloc, words, folder, out, err, gate,
+        ),
+        MachineChoice::SharedRows => run_one::<StealMachine<D::File>, Rt, D, O, E, G>(
+            rt, alloc, words, folder, out, err, gate,
+        ),
+        MachineChoice::Bilinear => run_one::<BlendMachine<D::File>, Rt, D, O, E, G>(
+            rt, alloc, words, folder, out, err, gate,
+        ),
+    }
+}
+
+// Does what the words say, as `run` of vt_top_call does, by the machines of this program.
 fn run_here<Rt: Threads + Wait + Sync, D: Folder, O: Sink, E: Sink, G: Gate + Sync>(
     rt: &Rt,
     alloc: Global,
@@ -61,17 +96,10 @@ fn run_here<Rt: Threads + Wait + Sync, D: Folder, O: Sink, E: Sink, G: Gate + Sy
         ⟦<SwapMachine<D::File> as PassMachine>⟧.drawing ⟦<StealMachine<D::File> as PassMachine>⟧.drawing
         ⟦<BlendMachine<D::File> as PassMachine>⟧.drawing }
 {
-    run_by::<
-        WordMachine<D::File>,
-        SwapMachine<D::File>,
-        StealMachine<D::File>,
-        BlendMachine<D::File>,
-        Rt,
-        D,
-        O,
-        E,
-        G,
-    >(rt, alloc, words, folder, out, err, gate)
+    match read_command(alloc, words) {
+        Ok(command) => run_chosen(rt, alloc, words, &command, folder, out, err, gate),
+        Err(error) => refuse_unread(error, err),
+    }
 }
 
 fn main(rt: HostRuntime) -> ExitCode {

@@ -4,8 +4,12 @@ use super::gates::{Meeting, Meetings};
 use std::alloc::{AllocError, Global};
 use std::sync::Wait;
 use std::thread::Threads;
+use vt_command_words::MachineChoice;
 use vt_outside::{Fail, Fails, MemoryFile, MemoryFolder, MemorySink, NoMemory};
-use vt_top_call::{BlendMachine, StealMachine, SwapMachine, WordMachine, run_by};
+use vt_top_call::{
+    BlendMachine, StealMachine, SwapMachine, WordMachine, choice_of, read_command, refuse_unread,
+    run_one,
+};
 
 /// What commands run over: a folder in memory, the output and the error output, and the gate of their workers.
 #[derive(Drop)]
@@ -101,23 +105,45 @@ fn play_words(
     words: &[String],
     scene: &mut Scene,
 ) -> u8 {
-    run_by::<
-        WordMachine<MemoryFile>,
-        SwapMachine<MemoryFile>,
-        StealMachine<MemoryFile>,
-        BlendMachine<MemoryFile>,
-        _,
-        _,
-        _,
-        _,
-        _,
-    >(
-        rt,
-        alloc,
-        words,
-        &mut scene.folder,
-        &mut scene.out,
-        &mut scene.err,
-        &scene.gate,
-    )
+    match read_command(alloc, words) {
+        Ok(command) => match choice_of(&command) {
+            MachineChoice::Standard => run_one::<WordMachine<MemoryFile>, _, _, _, _, _>(
+                rt,
+                alloc,
+                words,
+                &mut scene.folder,
+                &mut scene.out,
+                &mut scene.err,
+                &scene.gate,
+            ),
+            MachineChoice::SwappedTable => run_one::<SwapMachine<MemoryFile>, _, _, _, _, _>(
+                rt,
+                alloc,
+                words,
+                &mut scene.folder,
+                &mut scene.out,
+                &mut scene.err,
+                &scene.gate,
+            ),
+            MachineChoice::SharedRows => run_one::<StealMachine<MemoryFile>, _, _, _, _, _>(
+                rt,
+                alloc,
+                words,
+                &mut scene.folder,
+                &mut scene.out,
+                &mut scene.err,
+                &scene.gate,
+            ),
+            MachineChoice::Bilinear => run_one::<BlendMachine<MemoryFile>, _, _, _, _, _>(
+                rt,
+                alloc,
+                words,
+                &mut scene.folder,
+                &mut scene.out,
+                &mut scene.err,
+                &scene.gate,
+            ),
+        },
+        Err(error) => refuse_unread(error, &mut scene.err),
+    }
 }
