@@ -3,5 +3,5 @@ pub use Rattle.vt_requests.proofs.NearestNotes
 pub use Rattle.vt_requests.proofs.Streaming
 pub use Rattle.vt_streamer.proofs.TileWords
 mod Making
-mod Taking
+pub mod Taking
 mod Lasting

@@ -40,18 +40,18 @@ set_length (x ∷ xs) zero b = refl
 set_length (x ∷ xs) (suc i) b = ap suc (set_length xs i b)
 
 -- what a wanted result is
-both_parts : (a b : Bool) → (a && b) ≡ true → (a ≡ true) × (b ≡ true)
+pub both_parts : (a b : Bool) → (a && b) ≡ true → (a ≡ true) × (b ≡ true)
 both_parts true b e = (refl, e)
 both_parts false b e = absurd (false≢true e)
 
-not_so : (b : Bool) → not b ≡ true → b ≡ false
+pub not_so : (b : Bool) → not b ≡ true → b ≡ false
 not_so true e = absurd (false≢true e)
 not_so false e = refl
 
-below : (a b : ℕ) → nat_lt a b ≡ true → a < b
+pub below : (a b : ℕ) → nat_lt a b ≡ true → a < b
 below a b e = grind (arith, nat_tests)
 
-same : (a b : ℕ) → nat_eq a b ≡ true → a ≡ b
+pub same : (a b : ℕ) → nat_eq a b ≡ true → a ≡ b
 same a b e = grind (arith, nat_tests)
 
 pub wanted_inside : (s : Shape) (taken : List Bool) (r : Loaded) → is_wanted s taken r ≡ true → r.request.ticket < length taken

@@ -8,6 +8,8 @@ mod results;
 mod stream;
 mod waits;
 
+pub use entries::{map_page, put_entry};
+pub use results::{is_new, note_group};
 pub use stream::stream_batch;
 pub use vt_requests::{Counts, StreamReport, Task};
 pub use vt_streamer::Streamer;

@@ -1,12 +1,12 @@
 //! A result is applied to the entry of its ticket, and noted.
 
-ghost use Rattle.std.specs.Prelude.{◌≡◌, ◌+◌, ◌<◌, ◌≤◌, Some, ◌++◌, length, slice_get};
+ghost use Rattle.std.specs.Prelude.{◌≡◌, ◌+◌, ◌<◌, ◌≤◌, false, Some, ◌++◌, length, slice_get};
 ghost use Rattle.vt_journal.specs.Changes.{newest};
 ghost use Rattle.vt_streamer.specs.TableViews.{IsTile};
 ghost use Rattle.vt_streamer.specs.Views.{IsStreamerOf};
 ghost use Rattle.vt_requests.specs.PlanTypes.batches.Planned.{Planned as Entry};
 ghost use Rattle.vt_requests.specs.Readings.{is_lost};
-ghost use Rattle.vt_requests.specs.Outcomes.{IsEntryFor, group_of};
+ghost use Rattle.vt_requests.specs.Outcomes.{IsEntryFor, group_of, victim_events};
 ghost use Rattle.vt_requests.specs.BatchRounds.{result_group};
 ghost use Rattle.vt_streaming.specs.Made.{HasMade, group_contents, result_contents};
 ghost use Rattle.vt_requests.specs.TakenResults.{is_new, is_tile_length, is_wanted};
@@ -14,14 +14,14 @@ ghost use Rattle.vt_streaming.specs.Reports.{HasNotedResult};
 
 use crate::entries::put_entry;
 use std::sync::Wait;
-use vt_journal::{Event, Events, Geometry};
+use vt_journal::{Change, Event, Events, Geometry};
 use vt_outside::Gate;
 use vt_queue::{Loaded, Outcome};
 use vt_requests::{Losses, Planned, StreamReport};
 use vt_streamer::{Streamer, Words};
 
-// Whether a result is for an entry, by its ticket, whose result was not taken.
-fn is_new(taken: &Losses, ticket: usize) -> bool
+/// Whether a result is for an entry, by its ticket, whose result was not taken.
+pub fn is_new(taken: &Losses, ticket: usize) -> bool
     ensures { result ≡ is_new taken.now.elements (length taken.now.elements) ticket }
 {
     ticket < taken.len() && !*taken.at(ticket)
@@ -43,6 +43,34 @@ pub(crate) fn is_wanted(geometry: &Geometry, taken: &Losses, loaded: &Loaded) ->
 {
     is_new(taken, loaded.request.ticket as usize)
         && is_tile_length(geometry, loaded.request.buffer.len())
+}
+
+/// Notes the events of an entry whose tile was read.
+pub fn note_group(planned: &Planned, events: &mut Events)
+    requires room { 2 ≤ events.old.spare }
+    ensures events { events.new.elements ≡ events.old.elements ++ group_of planned.now false }
+    ensures room { events.old.spare ≤ events.new.spare + 2 }
+{
+    note_victim(planned, events);
+    events.push(Event::Changed(Change::Map {
+        page: planned.page,
+        frame: planned.frame,
+    }));
+}
+
+// Notes the unmap of an entry's victim, if it has one.
+fn note_victim(planned: &Planned, events: &mut Events)
+    requires room { 1 ≤ events.old.spare }
+    ensures events { events.new.elements ≡ events.old.elements ++ victim_events planned.now.victim planned.now.frame }
+    ensures room { events.old.spare ≤ events.new.spare + 1 }
+{
+    let Some(victim) = planned.victim else {
+        return;
+    };
+    events.push(Event::Changed(Change::Unmap {
+        page: victim,
+        frame: planned.frame,
+    }));
 }
 
 // Applies a result to its entry, or notes that it was lost. Answers whether it was.
@@ -74,7 +102,8 @@ fn apply_result<Rt: Wait, G: Gate>(
     match loaded.outcome {
         Outcome::Read => {
             let tile = loaded.request.buffer.slice();
-            put_entry(rt, words, streamer, planned, tile, events, gate);
+            put_entry(rt, words, streamer, planned, tile, gate);
+            note_group(planned, events);
             false
         }
         Outcome::Lost => {

@@ -15,7 +15,6 @@ use crate::pause::pause;
 use std::sync::Wait;
 use std::thread::Threads;
 use vt_journal::Change;
-use vt_outside::{Gate, Point};
 use vt_queue::{Loaded, QueuePass, ResultQueue};
 use vt_streamer::{Streamer, Words};
 
@@ -58,14 +57,13 @@ pub(crate) fn free_frame<Rt: Wait>(rt: &Rt, words: &Words, streamer: &mut Stream
     unreachable!()
 }
 
-/// Publishes a change, and tells the gate. It waits until no sampler holds a version that the change would write over.
-pub(crate) fn publish<Rt: Wait, G: Gate>(
+/// Publishes a change, and tells its version. It waits until no sampler holds a version that the change would write over.
+pub(crate) fn publish<Rt: Wait>(
     rt: &Rt,
     words: &Words,
     streamer: &mut Streamer,
     change: Change,
-    gate: &G,
-)
+) -> u64
     requires of { IsStreamerOf words.now streamer.old }
     requires room { 1 ≤ streamer.old.spare }
     requires within { IsTableChange (streamer_table streamer.old) change }
@@ -81,10 +79,7 @@ pub(crate) fn publish<Rt: Wait, G: Gate>(
     let mut pauses = 0;
     for _ in rt.forever() {
         match streamer.try_publish(words, change) {
-            Ok(version) => {
-                gate.at(Point::Published { version });
-                return;
-            }
+            Ok(version) => return version,
             Err(_) => pauses = pause(rt, pauses),
         }
     }

@@ -20,4 +20,4 @@ pub use reports::{count_together, note_lines};
 pub use samplers::{WithPass, WordSampler};
 pub use vt_journal::RowLines;
 pub use vt_sampler::{Filter, Nearest, Sampler, Shot, Words};
-pub use vt_streaming::{Counts, StreamReport, Streamer, stream_batch};
+pub use vt_streaming::{Counts, StreamReport, Streamer, map_page, put_entry, stream_batch};

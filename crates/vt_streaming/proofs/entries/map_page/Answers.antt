@@ -10,7 +10,8 @@ use Rattle.vt_streaming.proofs.entries.map_page.Goals as goal
 
 pub returns : goal.returns
 returns g c =
-    let e = c.args.planned.now in let looked = c.free_frame.ensures.looked in let fill = c.fill.ensures in let did = c.publish.ensures in
+    let page : ℕ = c.args.page in let frame : ℕ = c.args.frame in
+    let looked = c.free_frame.ensures.looked in let fill = c.fill.ensures in let did = c.publish.ensures in
     let u = c.args.streamer.now in let v = c.free_frame.new.streamer in let w = c.fill.new.self in let x = c.publish.new.streamer in
     let shape : v.shape ≡ u.shape = ap (λ (y : StreamerView). y.shape) looked in
     let spare : w.spare ≡ u.spare = ap (λ (y : StreamerView). y.spare) (fill.rest) ∙ ap (λ (y : StreamerView). y.spare) looked in
@@ -18,7 +19,7 @@ returns g c =
       of = did.of;
       made = made_both [] _ [] _ u.writer v.writer x.writer (made_looked u.writer v.writer (ap (λ (y : StreamerView). y.writer) looked))
           (made_both [] _ [] _ v.writer w.writer x.writer (made_filled v.writer w.writer (ap (λ (y : StreamerView). y.writer) fill.rest))
-          (subst (λ (content : List ℕ). HasMade (Changed (Map e.page e.frame) ∷ []) (content ∷ []) w.writer x.writer)
+          (subst (λ (content : List ℕ). HasMade (Changed (Map page frame) ∷ []) (content ∷ []) w.writer x.writer)
           (fill.content ∙ ap (λ (s : Shape). words_in s c.args.tile.now) shape) did.made));
       shape = did.shape ∙ ap (λ (y : StreamerView). y.shape) fill.rest ∙ shape;
       spare = subst (λ (n : ℕ). n ≤ x.spare + 1) spare did.spare;

@@ -1,8 +1,7 @@
-use Rattle.std.proofs.Common.{◌<◌, ℕ, [], ◌∷◌, ◌++◌, List, ap, ◌∙◌, sym, subst, append_assoc, arith}
+use Rattle.std.proofs.Common.{◌<◌, ℕ, [], ◌∷◌, ◌∙◌, sym, subst, arith}
 use Rattle.vt_journal.specs.Shape.{Shape}
 use Rattle.vt_journal.specs.Pages.{pages_of}
 use Rattle.vt_journal.specs.declared.changes.Change.TheVariants.{Map}
-use Rattle.vt_journal.specs.declared.changes.Event.{Event}
 use Rattle.vt_journal.specs.declared.changes.Event.TheVariants.{Changed}
 use Rattle.vt_streamer.specs.TableViews.{IsTile}
 use Rattle.vt_streamer.specs.Fills.{words_in}
@@ -13,8 +12,8 @@ use Rattle.vt_streaming.specs.Made.{HasMade}
 use Rattle.vt_streaming.proofs.Making.{made_both, publishes, as_many_frames}
 use Rattle.vt_streaming.proofs.entries.put_entry.Goals as goal
 
-pub map_page-requires : goal.map_page-requires
-map_page-requires g c =
+pub map_page-version-requires : goal.map_page-version-requires
+map_page-version-requires g c =
     let r = c.requires in let e = c.args.planned.now in let did = c.unmap_victim.ensures in
     let v = c.args.streamer.now in let w = c.unmap_victim.new.streamer in
     record {
@@ -29,15 +28,12 @@ map_page-requires g c =
 
 pub returns : goal.returns
 returns g c =
-    let e = c.args.planned.now in let first = c.unmap_victim.ensures in let next = c.map_page.ensures in
-    let u = c.args.streamer.now in let v = c.unmap_victim.new.streamer in let w = c.map_page.new.streamer in
+    let e = c.args.planned.now in let first = c.unmap_victim.ensures in let next = c.map_page-version.ensures in
+    let u = c.args.streamer.now in let v = c.unmap_victim.new.streamer in let w = c.map_page-version.new.streamer in
     record {
       of = next.of;
       made = made_both (victim_events e.victim e.frame) _ _ _ u.writer v.writer w.writer first.made
           (subst (λ (s : Shape). HasMade (Changed (Map e.page e.frame) ∷ []) (words_in s c.args.tile.now ∷ []) v.writer w.writer) first.shape next.made);
       shape = next.shape ∙ first.shape;
       spare = (let a = first.spare in let b = next.spare in omega (arith, a, b));
-      events = c.push.ensures.elements ∙ ap (λ (l : List Event). l ++ Changed (Map e.page e.frame) ∷ []) first.events
-          ∙ append_assoc c.args.events.now.elements (victim_events e.victim e.frame) (Changed (Map e.page e.frame) ∷ []);
-      room = (let a = first.room in let b = c.push.ensures.spare in omega (arith, a, b));
     }
