@@ -1,4 +1,4 @@
-//! What a page table is to who draws from it and to who changes it.
+//! A page table as its readers and its writer see it.
 #![tactic(auto)]
 
 mod table;
@@ -6,4 +6,4 @@ mod table;
 pub use table::PageTable;
 pub use vt_machine::{FeedbackCounts, Losses, Planned, Task};
 pub use vt_pictures::{Filter, Path, Shot};
-pub use vt_tiles::Geometry;
+pub use vt_tiles::{Geometry, tile_length};

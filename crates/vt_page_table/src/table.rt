@@ -1,6 +1,6 @@
 //! A page table with one writer and a reader for each sampler.
 
-ghost use Rattle.std.specs.Prelude.{◌≡◌, ℕ, ◌+◌, ◌*◌, ◌<◌, ◌≤◌, ◌^◌, true, false, Some, List, [], ◌∷◌, ◌++◌, length, slice_index, IsSome, IsTrue, IfOk, OnOk, OnErr};
+ghost use Rattle.std.specs.Prelude.{◌≡◌, ℕ, ◌+◌, ◌*◌, ◌<◌, ◌≤◌, ◌^◌, false, Some, List, [], ◌∷◌, ◌++◌, length, slice_index, IsSome, IsTrue, IfOk, OnOk, OnErr};
 ghost use Rattle.vt_definitions.specs.Depths.{IsDepth, texel_length};
 ghost use Rattle.vt_definitions.specs.Limits.{most_samplers, most_versions};
 ghost use Rattle.vt_tiles.specs.Shape.{Shape};
@@ -28,9 +28,8 @@ use vt_tiles::Geometry;
 
 /// A page table that one writer changes while readers draw from it, each sampler by a reader of its own.
 ///
-/// Between passes each reader is at home. It is opened for a pass by who has the writer; its sampler lets it enter and then draws rows by
-/// it; and it is closed after the pass. What a reader says of versions need not be a fact of any journal before it is closed; then the
-/// writer knows it.
+/// Between passes each reader is at home. Whoever has the writer opens it for a pass; its sampler lets it enter once, and then draws rows by
+/// it; after the pass it is closed. What a reader says of versions is known to be true only once `close` has answered true.
 ///
 /// Whether its types may be sent or shared is asked where a machine is made of them: as bounds here they would be assumptions of each
 /// function that is generic in a table.
@@ -68,14 +67,13 @@ pub trait PageTable {
     /// What it knows of versions.
     ghost knows: { Self.Writer → Note → Type 0 };
 
-    /// A writer came to be another by calls that answered.
+    /// The second writer is a later state of the first.
     ghost later: { Self.Writer → Self.Writer → Type 0 };
 
-    /// Between two views of a writer the reader of a sampler of this number came home, which had come to be the first of these, and is the
-    /// second one at home.
+    /// Between these two states of the writer the reader of this sampler was closed: it was the first reader before, and is the second after.
     ghost came: { Self.Writer → Self.Writer → ℕ → Self.Reader → Self.Reader → Type 0 };
 
-    /// By what a writer and the reader of a sampler of this number know, who is at home, that reader drew at a version.
+    /// By what the writer and this reader know, which is at home, the reader drew at this version.
     ghost was_at: { Self.Writer → ℕ → Self.Reader → ℕ → Type 0 };
 
     /// The reader of a sampler of this number is at home.
@@ -84,7 +82,7 @@ pub trait PageTable {
     /// The reader of a sampler of this number was opened for pictures of a texture that is cut in this way.
     ghost is_open: { Self.Shared → Shape → ℕ → Self.Reader → Type 0 };
 
-    /// And may draw.
+    /// It was opened so, has entered, and may draw rows.
     ghost may_draw: { Self.Shared → Shape → ℕ → Self.Reader → Type 0 };
 
     /// The version at which the pass starts for which a reader was opened.
@@ -93,10 +91,10 @@ pub trait PageTable {
     /// What a reader says of versions.
     ghost says: { Self.Reader → Note → Type 0 };
 
-    /// By entering a reader came to be another.
+    /// The second reader is the first after `enter`.
     ghost entered: { Self.Reader → Self.Reader → Type 0 };
 
-    /// By drawing one row at a version it came to be another.
+    /// The second reader is the first after it drew one row, at this version.
     ghost drew_row: { Self.Reader → Self.Reader → ℕ → Type 0 };
 
     /// By drawing rows at these versions, the newest first, each on its own, and by nothing else it came to be another.
@@ -108,7 +106,8 @@ pub trait PageTable {
     /// What is so where memory is refused in a pass: nothing, for tables that take all their memory before.
     ghost refuses: { Type 0 };
 
-    /// A table that maps nothing, with a reader for each of so many samplers. It may wait.
+    /// A table that maps nothing, with a reader for each of so many samplers. `frames` is from 1 to 65,535, with at most 8,388,608 texels
+    /// together; `samplers` from 1 to 64. The one refusal is want of memory. It may wait.
     fn make<R: Wait>(
         rt: &R,
         alloc: Global,
@@ -141,10 +140,11 @@ pub trait PageTable {
         ensures fills { FillsNone (is_filled writer.old) (is_filled writer.new) }
         ensures later { later writer.old writer.new }
         ensures home { (k : ℕ) (r : Self.Reader) → is_home writer.old k r → is_home writer.new k r }
+        ensures kept { OnErr result ((m : ℕ) → has_room writer.old m → has_room writer.new m) }
         ensures room { OnOk result (has_room writer.new n) };
 
-    /// Fills a free frame with the tile of an unmapped page, and maps the page to it, between passes. It may wait. After a refusal the
-    /// journal is as it was.
+    /// Fills a free frame with the tile of an unmapped page, and maps the page to it, between passes. Room for one change was reserved. A
+    /// sample has `depth` bytes, 1 or 2; the tile has three samples a texel. It may wait. After a refusal the journal is as it was.
     fn place<R: Wait>(
         rt: &R,
         shared: &Self::Shared,
@@ -234,7 +234,8 @@ pub trait PageTable {
             AreRaised P.wants shot.now.geometry.now row shot.now.path.now.width counts.old counts.new };
 
     /// Puts the page of an entry in the place of its victim, if it has one: the victim is unmapped, the frame filled with the tile once
-    /// nobody reads it, and the page mapped. The gate is told of each version. It may wait. After a refusal the pass can only be ended.
+    /// nobody reads it, and the page mapped. Room for two changes was reserved. A sample has `depth` bytes, 1 or 2; the tile has three samples
+    /// a texel. The gate is told of each version. It may wait. After a refusal the pass can only be ended.
     fn bring<R: Wait, G: Gate>(
         rt: &R,
         shared: &Self::Shared,
@@ -310,7 +311,7 @@ pub trait PageTable {
     /// At which version a reader drew stays known.
     ghost was_later: { (v w : Self.Writer) (k : ℕ) (r : Self.Reader) (version : ℕ) → later v w → was_at v k r version → was_at w k r version };
 
-    /// Who came home came home between views that are farther apart.
+    /// Being closed between two states is being closed between states farther apart.
     ghost came_within: { (t u v w : Self.Writer) (k : ℕ) (r q : Self.Reader) → later t u → later v w → came u v k r q → came t w k r q };
 
     /// A reader that may draw and drew nothing.
@@ -320,13 +321,13 @@ pub trait PageTable {
     ghost rows_more: { (p q r : Self.Reader) (versions : List ℕ) (v : ℕ) → drew_rows p q versions → drew_row q r v
         → drew_rows p r (v ∷ versions) };
 
-    /// At which it drew after other rows it drew.
+    /// The version of the newest row is one at which it drew.
     ghost drew_now: { (p q r : Self.Reader) (versions : List ℕ) (v : ℕ) → drew_rows p q versions → drew_row q r v → drew p r v };
 
     /// A version at which it drew stays one, though it draws on.
     ghost drew_then: { (p q r : Self.Reader) (u v : ℕ) → drew p q u → drew_row q r v → drew p r u };
 
-    /// And so for who looked at it before it entered.
+    /// What was drawn since it entered was drawn since before it entered.
     ghost drew_since: { (p q r : Self.Reader) (v : ℕ) → entered p q → drew q r v → drew p r v };
 
     /// Versions never fall.
@@ -335,7 +336,7 @@ pub trait PageTable {
     /// None is before the start of the pass.
     ghost since: { (q r : Self.Reader) (v : ℕ) → drew_row q r v → start q ≤ v };
 
-    /// Which stays.
+    /// Drawing a row does not change the start.
     ghost same_start: { (q r : Self.Reader) (v : ℕ) → drew_row q r v → start r ≡ start q };
 
     /// What it said it says.
