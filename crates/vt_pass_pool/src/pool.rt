@@ -126,14 +126,7 @@ impl<T: PageTable, S: Schedule> PassPool<T, S> {
         } }
     {
         self.lines.reserve(u64::from(self.height))?;
-        S::begin::<R>(
-            rt,
-            self.alloc,
-            rows,
-            &mut self.home,
-            self.drawn.slice_mut(),
-            self.count,
-        )?;
+        S::begin::<R>(rt, self.alloc, rows, &mut self.home, self.drawn.slice_mut())?;
         open_samplers::<T, S>(
             self.alloc,
             table,

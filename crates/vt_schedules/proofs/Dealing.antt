@@ -1,79 +1,56 @@
 -- Rows that are moved to their samplers.
-use Rattle.std.proofs.Common.{◌≡◌, ◌≢◌, ℕ, zero, suc, ◌+◌, ◌%◌, ◌≤◌, ◌<◌, inl, inr, ◌⊎◌, Bool, true, false, List, [], ◌∷◌, ◌++◌, length, get_or, reverse, Some, refl, sym, ap, ◌∙◌, subst, append_assoc, arith, eq-eqb}
-use Rattle.std.specs.Prelude.{◌==◌, if◌then◌else◌, All, filter, slice_get}
-use Rattle.std.specs.List.{range_with_len}
-use Rattle.std.proofs.lemmas.Bool.{cases_eq}
-use Rattle.std.proofs.lemmas.Bool.Decides.{nat_tests}
-use Rattle.std.proofs.lemmas.List.{reverse-append}
-use Rattle.std.proofs.lemmas.List.Elements.{All-push}
+use Rattle.std.proofs.Common.{◌≡◌, ◌≢◌, ℕ, zero, suc, ◌+◌, ◌*◌, ◌%◌, ◌≤◌, ◌<◌, List, [], ◌∷◌, ◌++◌, length, get_or, reverse, Some, refl, sym, ap, ◌∙◌, subst, append_assoc, arith}
+use Rattle.std.specs.Prelude.{All, slice_get}
+use Rattle.std.proofs.lemmas.List.{append-nil, reverse-append, reverse-reverse}
+use Rattle.std.proofs.lemmas.List.Elements.{All-nil, All-push}
 use Rattle.std.proofs.lemmas.Option.{same_Some, none-some, slice_get_within, slice_get-get_or, get_or_from_slice_get}
-use Rattle.vt_definitions.specs.Dealing.{sampler_of}
+use Rattle.vt_definitions.specs.Dealing.{sampler_of, own_count}
+use Rattle.vt_definitions.proofs.Dealt.{sampler_is, turns_over, turns_within}
 use Rattle.vt_sampler.specs.Samplers.{own_rows}
+use Rattle.vt_sampler.proofs.Sharing.{own_rows-same, own_rows-next, own_rows-first}
 use Rattle.vt_schedules.specs.declared.bag.RowJob.{RowJob}
 use Rattle.vt_schedules.specs.SharedRows.{FitsRow, rows_of}
 use Rattle.vt_schedules.proofs.Taken.{rows_push}
 use Rattle.vt_schedules.specs.declared.dealt.DealtWay.{DealtWay}
 use Rattle.vt_schedules.specs.Rows.{AreRowsInPlace}
-use Rattle.vt_schedules.specs.Dealt.{TookDealt, AreOwnInPlace, AreDealt}
+use Rattle.vt_schedules.specs.Dealt.{AreOwnInPlace, AreDealt}
 
--- the rows of a sampler among the last of so many
-unfoldable pub own_last : ℕ → ℕ → ℕ → ℕ → List ℕ
-own_last k n from count = filter (λ y. sampler_of y n == k) (range_with_len from count)
-
-pub own_last-none : (k n from : ℕ) → own_last k n from 0 ≡ []
-unfolding own_last
-own_last-none k n from = refl
-
-pub own_last-all : (k n height : ℕ) → own_last k n 0 height ≡ own_rows k n height
-unfolding own_last own_rows
-own_last-all k n height = refl
-
-pub own_last-take : (k n y from count : ℕ) → from ≡ y + 1 → sampler_of y n ≡ k → own_last k n y (count + 1) ≡ y ∷ own_last k n from count
-unfolding own_last
-own_last-take k n y from count next own =
-    let e : count + 1 ≡ suc count = omega arith in
-    let b : (y % n == k) ≡ true = eq-eqb (y % n) k own in
-    ap (λ (m : ℕ). filter (λ z. z % n == k) (range_with_len y m)) e
-    ∙ ap (λ (c : Bool). if c then y ∷ filter (λ z. z % n == k) (range_with_len (y + 1) count) else filter (λ z. z % n == k) (range_with_len (y + 1) count)) b
-    ∙ ap (λ (m : ℕ). y ∷ filter (λ z. z % n == k) (range_with_len m count)) (sym next)
-
-pub own_last-skip : (k n y from count : ℕ) → from ≡ y + 1 → sampler_of y n ≢ k → own_last k n y (count + 1) ≡ own_last k n from count
-unfolding own_last
-own_last-skip k n y from count next other =
-    let e : count + 1 ≡ suc count = omega arith in
-    let b : (y % n == k) ≡ false = grind (arith, nat_tests) in
-    ap (λ (m : ℕ). filter (λ z. z % n == k) (range_with_len y m)) e
-    ∙ ap (λ (c : Bool). if c then y ∷ filter (λ z. z % n == k) (range_with_len (y + 1) count) else filter (λ z. z % n == k) (range_with_len (y + 1) count)) b
-    ∙ ap (λ (m : ℕ). filter (λ z. z % n == k) (range_with_len m count)) (sym next)
-
--- a sampler has its rows among the last of a picture
-pub record HasLast (height line n k from count : ℕ) (own : List RowJob) : Type 0 where
-  pub rows : rows_of own ≡ reverse (own_last k n from count)
+-- a sampler has its rows from a turn on, the last one first
+pub record HasRest (height line n k turn : ℕ) (own : List RowJob) : Type 0 where
+  pub rows : own_rows k n height ≡ own_rows k n (turn * n + k) ++ reverse (rows_of own)
   pub fits : All (FitsRow height line) own
 
-pub last_none : (height line n k from : ℕ) → HasLast height line n k from 0 []
-last_none height line n k from = record {
-  rows = ap reverse (sym (own_last-none k n from));
-  fits = λ i d inside. absurd (omega (arith, inside));
+-- none, from the first turn on that it does not have
+pub rest_none : (height line n k : ℕ) → k < n → HasRest height line n k (own_count k n height) []
+rest_none height line n k one = record {
+  rows = sym (own_rows-same k n height (own_count k n height * n + k) (turns_over k (own_count k n height) n height one (omega arith))
+      (λ z below own. turns_within k (own_count k n height) n height z one (omega arith) below own))
+      ∙ sym (append-nil (own_rows k n (own_count k n height * n + k)));
+  fits = All-nil (FitsRow height line);
 }
 
-pub last_more : (height line n k y from count : ℕ) (own now : List RowJob) (job : RowJob) → from ≡ y + 1 → y < height → HasLast height line n k from count own
-    → (sampler_of y n ≡ k → now ≡ own ++ job ∷ []) → (sampler_of y n ≢ k → now ≡ own)
-    → (sampler_of y n ≡ k → (job.row ≡ y) × (length job.samples.elements ≡ line)) → HasLast height line n k y (count + 1) now
-last_more height line n k y from count own now job next inside last moved skipped place = by (cases_eq (sampler_of y n) k) where
-  by : (sampler_of y n ≡ k) ⊎ (sampler_of y n ≢ k) → HasLast height line n k y (count + 1) now
-  by (inl same) = subst (HasLast height line n k y (count + 1)) (sym (moved same)) (record {
-    rows = rows_push own job ∙ (λ i. last.rows i ++ (place same).0 i ∷ [])
-        ∙ sym (reverse-append (y ∷ []) (own_last k n from count)) ∙ ap reverse (sym (own_last-take k n y from count next same));
-    fits = All-push (FitsRow height line) own job last.fits (record {
-      inside = (let e = (place same).0 in omega (arith, e, inside));
-      full = (place same).1;
-    });
-  })
-  by (inr other) = subst (HasLast height line n k y (count + 1)) (sym (skipped other)) (record {
-    rows = last.rows ∙ ap reverse (sym (own_last-skip k n y from count next other));
-    fits = last.fits;
-  })
+-- and the row of the turn before
+pub rest_more : (height line n k turn y : ℕ) (own : List RowJob) (job : RowJob) → k < n → y ≡ turn * n + k → y < height
+    → HasRest height line n k (turn + 1) own → (job.row ≡ y) × (length job.samples.elements ≡ line) → HasRest height line n k turn (own ++ job ∷ [])
+rest_more height line n k turn y own job one is inside rest place =
+    let next : (turn + 1) * n + k ≡ y + n = omega (arith, is) in
+    let own_is : y % n ≡ k = ap (λ (m : ℕ). m % n) is ∙ sampler_is k turn n one in
+    record {
+      rows = rest.rows ∙ ap (λ (m : ℕ). own_rows k n m ++ reverse (rows_of own)) next
+          ∙ ap (λ (l : List ℕ). l ++ reverse (rows_of own)) (own_rows-next k n y (omega (arith, one)) own_is)
+          ∙ append_assoc (own_rows k n y) (y ∷ []) (reverse (rows_of own))
+          ∙ (λ i. own_rows k n (is i) ++ (sym place.0 i ∷ reverse (rows_of own)))
+          ∙ ap (λ (l : List ℕ). own_rows k n (turn * n + k) ++ l) (sym (reverse-append (rows_of own) (job.row ∷ [])) ∙ ap reverse (sym (rows_push own job)));
+      fits = All-push (FitsRow height line) own job rest.fits (record { inside = (let e = place.0 in omega (arith, e, inside)); full = place.1 });
+    }
+
+-- all, from turn 0 on
+pub rest_all : (height line n k : ℕ) (own : List RowJob) → k < n → HasRest height line n k 0 own → rows_of own ≡ reverse (own_rows k n height)
+rest_all height line n k own one rest =
+    let first : 0 * n + k ≡ k = omega arith in
+    let all : own_rows k n height ≡ reverse (rows_of own) =
+    rest.rows ∙ ap (λ (m : ℕ). own_rows k n m ++ reverse (rows_of own)) first ∙ ap (λ (l : List ℕ). l ++ reverse (rows_of own)) (own_rows-first k n one) in
+    sym (reverse-reverse (rows_of own)) ∙ ap reverse (sym all)
 
 -- all rows are in their places
 pub first_dealt : (height line n : ℕ) (jobs : List RowJob) → 1 ≤ n → AreRowsInPlace height line jobs → AreDealt height line n [] jobs
@@ -121,11 +98,3 @@ module _ (height line n k : ℕ) (owns : List DealtWay) (old new : List RowJob) 
         each_push l (from + 1) (omega (arith, last))
         (λ m d at. each (suc m) d at ∙ ap (λ (z : ℕ). reverse (own_rows z n height)) (shift m)) j b is
         ∙ ap (λ (z : ℕ). reverse (own_rows z n height)) (sym (shift j))
-
--- the next row was taken
-pub took_next : (first own now : List RowJob) (job : RowJob) (rows : List ℕ) → own ≡ now ++ job ∷ [] → TookDealt first own rows
-    → TookDealt first now (rows ++ job.row ∷ [])
-took_next first own now job rows is took =
-    took ∙ ap (λ (l : List RowJob). rows_of l ++ reverse rows) is ∙ ap (λ (l : List ℕ). l ++ reverse rows) (rows_push now job)
-    ∙ append_assoc (rows_of now) (job.row ∷ []) (reverse rows)
-    ∙ ap (λ (l : List ℕ). rows_of now ++ l) (sym (reverse-append rows (job.row ∷ [])))

@@ -1,5 +1,5 @@
 -- One row more that is taken from a bag, and one pass more that is split off or back.
-use Rattle.std.proofs.Common.{◌≡◌, ℕ, zero, suc, ◌+◌, ◌<◌, inl, inr, Some, List, [], ◌∷◌, ◌++◌, length, get_or, refl, sym, ap, ◌∙◌, subst, append_assoc, arith}
+use Rattle.std.proofs.Common.{◌≡◌, ℕ, zero, suc, ◌+◌, ◌<◌, inr, Some, List, [], ◌∷◌, ◌++◌, length, get_or, refl, sym, ap, ◌∙◌, subst, append_assoc, arith}
 use Rattle.std.specs.Prelude.{All, slice_get, take}
 use Rattle.std.specs.List.{range_with_len}
 use Rattle.std.proofs.lemmas.List.{map-append, take_more}
@@ -8,7 +8,7 @@ use Rattle.std.proofs.lemmas.Option.{none-some, same_Some, slice_get_within}
 use Rattle.vt_queue.specs.declared.views.PassView.{PassView}
 use Rattle.vt_queue.specs.PassViews.{pass_view, all_shares, Splits}
 use Rattle.vt_queue.specs.Orders.{items_of, placed}
-use Rattle.vt_queue.specs.Steps.{IsAtStep, Takes}
+use Rattle.vt_queue.specs.Steps.{Takes}
 use Rattle.vt_queue.proofs.Gathered.{all_cut, placed_more, placed_items}
 use Rattle.vt_schedules.specs.declared.bag.RowJob.{RowJob}
 use Rattle.vt_schedules.specs.declared.bag.BagPass.{BagPass}
@@ -59,13 +59,6 @@ module _ (height line : ℕ) (v w x : PassView RowJob) (rows : List ℕ) (job : 
 
     pub ended_else : EndedRows height line v x rows
     ended_else = record { got = h.got ++ (t.place, job) ∷ []; is = took_more v w x h.got job h.is t; so = inr (inr unfit) }
-
--- nothing was left
-pub took_still : (height line : ℕ) (v w x : PassView RowJob) (rows : List ℕ) → TookRows height line v w rows → x ≡ w → IsAtStep w []
-    → TookRows height line v x rows × EndedRows height line v x rows
-took_still height line v w x rows took same empty =
-    subst (λ (u : PassView RowJob). TookRows height line v u rows × EndedRows height line v u rows) (sym same)
-    (took, record { got = took.got; is = took.is; so = inl empty })
 
 -- Rows that lie in their places, put in that order.
 placed_number : {I : Type 0} (n : ℕ) (xs : List I) → length (placed n xs) ≡ length xs

@@ -1,6 +1,6 @@
 -- Ways by which rows are taken.
-use Rattle.std.proofs.Common.{◌≡◌, ℕ, false, Option, None, Some, List, [], ◌∷◌, ◌++◌, sym, ap, ◌∙◌, subst}
-use Rattle.std.specs.Prelude.{Result, Ok, Err, OnOk, IfSome, IfNone}
+use Rattle.std.proofs.Common.{◌≡◌, ℕ, false, Some, List, [], ◌∷◌, ◌++◌, sym, ap, ◌∙◌, subst}
+use Rattle.std.specs.Prelude.{Result, Ok, Err, OnOk}
 use Rattle.vt_queue.specs.declared.views.PassView.{PassView}
 use Rattle.vt_queue.specs.Steps.{IsAtStep}
 use Rattle.vt_schedules.specs.declared.bag.RowJob.{RowJob}
@@ -8,34 +8,13 @@ use Rattle.vt_schedules.specs.declared.bag.BagPass.{BagPass}
 use Rattle.vt_schedules.specs.Bags.{view_of}
 use Rattle.vt_schedules.specs.declared.shared.BagWay.{BagWay}
 use Rattle.vt_schedules.specs.Rows.{AreTaken, AreAllRows}
-use Rattle.vt_schedules.specs.Sharing.{TookRows, EndedRows, TookWay, EndedWay, AreBack, joined_if}
+use Rattle.vt_schedules.specs.Sharing.{TookWay, AreBack, joined_if}
 use Rattle.vt_schedules.proofs.AllShared.{all_shared}
 use Rattle.vt_schedules.proofs.Taking.{back_more}
 
 pub on_ok : {V E A B : Type 0} (r : Result V E) → (A → B) → OnOk r A → OnOk r B
 on_ok (Ok v) f a = f a
 on_ok (Err e) f a = tt
-
-pub if_some : {X : Type 0} (P Q : X → Type 0) (o : Option X) → ((x : X) → P x → Q x) → IfSome o P → IfSome o Q
-if_some P Q None f p = tt
-if_some P Q (Some x) f p = f x p
-
-pub if_none : {X A B : Type 0} (o : Option X) → (A → B) → IfNone o A → IfNone o B
-if_none None f a = f a
-if_none (Some x) f a = tt
-
-module _ (height line : ℕ) (p q : BagPass) where
-  pub way_took : (o was : Option BagPass) (rows more : List ℕ) → was ≡ Some p
-      → ((v : PassView RowJob) → TookRows height line v (view_of p) rows → TookRows height line v (view_of q) more)
-      → TookWay height line o was rows → TookWay height line o (Some q) more
-  way_took None was rows more is on took = absurd took
-  way_took (Some f) was rows more is on took = on (view_of f) (subst (λ (x : Option BagPass). TookWay height line (Some f) x rows) is took)
-
-  pub way_ended : (o was : Option BagPass) (rows : List ℕ) → was ≡ Some p
-      → ((v : PassView RowJob) → TookRows height line v (view_of p) rows → TookRows height line v (view_of q) rows × EndedRows height line v (view_of q) rows)
-      → TookWay height line o was rows → TookWay height line o (Some q) rows × EndedWay height line o (Some q) rows
-  way_ended None was rows is on took = absurd took
-  way_ended (Some f) was rows is on took = on (view_of f) (subst (λ (x : Option BagPass). TookWay height line (Some f) x rows) is took)
 
 -- a pass is back
 pub way_back : (height line : ℕ) (firsts owns : List BagWay) (home now p : BagPass) (a : BagWay) → AreBack height line firsts owns home → a.pass ≡ Some p

@@ -1,4 +1,4 @@
--- Rows that samplers take from a bag, draw and keep.
+-- Rows that samplers take, draw and keep, and those of a bag.
 use Rattle.std.specs.Prelude.{◌≡◌, ℕ, ◌<◌, ◌≤◌, List, ◌++◌, map, length, All, AllPairs}
 use Rattle.std.specs.List.{range_with_len}
 use Rattle.vt_queue.specs.declared.views.PassView.{PassView}

@@ -1,6 +1,6 @@
 //! The bag: rows that any sampler may take.
 
-ghost use Rattle.std.specs.Prelude.{◌≡◌, ◌+◌, ◌-◌, ◌/◌, ◌<◌, ◌≤◌, [], MatchBool, IfOk, IfErr, OnErr, OnOk, IfSome, IfNone, IsTrue};
+ghost use Rattle.std.specs.Prelude.{◌≡◌, ◌+◌, ◌-◌, ◌/◌, ◌^◌, ◌<◌, ◌≤◌, [], MatchBool, IfOk, IfErr, OnErr, OnOk, IfSome, IfNone, IsTrue};
 ghost use Rattle.vt_queue.specs.PassViews.{first_view, joined, Splits, all_shares, split_part};
 ghost use Rattle.vt_queue.specs.Steps.{Puts, Takes, IsAtStep};
 ghost use Rattle.crossbeam_deque.specs.Steals.{MatchSteal};
@@ -118,6 +118,16 @@ fn given_of(splits: u64) -> u64
     (splits - 1) / PART
 }
 
+// The splits of two passes that are joined: those of both, and the one by which the second was split off. A join teaches nothing of how
+// many shares there are, so that the sum is small is known to callers only.
+fn with_splits(splits: u64, given: u64) -> u64
+    ensures all { splits + given + 1 < 2 ^ 64 → result ≡ splits + given + 1 }
+    ensures least { splits ≤ result }
+    ensures most { result ≤ splits + given + 1 }
+{
+    splits.saturating_add(given).saturating_add(1)
+}
+
 impl RowBag {
     /// An empty bag and its one pass.
     pub fn new(alloc: Global) -> Result<(RowBag, BagPass), NoMemory>
@@ -142,6 +152,7 @@ impl RowBag {
         ensures of { IsPassOfBag self.now pass.new }
         ensures other { IfOk result (λ other. IsPassOfBag self.now other) }
         ensures splits { IfOk result (λ other. Splits (view_of pass.old) (view_of pass.new) (view_of other)) }
+        ensures budget { IfOk result (λ other. splits_of pass.new + splits_of other + 1 ≡ splits_of pass.old) }
         ensures refused { OnErr result ((pass.new ≡ pass.old) × (splits_of pass.old ≡ 0)) }
     {
         if are_spent(pass.splits) {
@@ -156,15 +167,18 @@ impl RowBag {
         })
     }
 
-    /// Takes a pass in: what it put, took and knew is now this one's.
+    /// Takes a pass in: what it put, took and knew is now this one's, and so are its splits.
     pub fn join(&self, into: &mut BagPass, pass: BagPass)
         requires { IsPassOfBag self.now into.old × IsPassOfBag self.now pass }
         ensures of { IsPassOfBag self.now into.new }
         ensures joined { view_of into.new ≡ joined (view_of into.old) (view_of pass) }
-        ensures splits { splits_of into.new ≡ splits_of into.old }
+        ensures splits { splits_of into.old + splits_of pass + 1 < 2 ^ 64
+            → splits_of into.new ≡ splits_of into.old + splits_of pass + 1 }
+        ensures least { splits_of into.old ≤ splits_of into.new }
     {
-        let BagPass { pass, splits: _ } = pass;
+        let BagPass { pass, splits } = pass;
         self.rows.absorb::<Sharing>(&mut into.pass, pass);
+        into.splits = with_splits(into.splits, splits);
     }
 
     /// Puts a row at the end. A refusal hands it back, and nothing changed. It may wait.

@@ -1,7 +1,7 @@
 //! Row y is drawn by sampler y modulo their number.
 
-ghost use Rattle.std.specs.Prelude.{◌≡◌, ◌≢◌, ℕ, ◌<◌, ◌≤◌, ◌^◌, [], ◌∷◌, ◌++◌, length, reverse, All, IfOk, OnOk, slice_index_or};
-ghost use Rattle.vt_definitions.specs.Dealing.{sampler_of};
+ghost use Rattle.std.specs.Prelude.{◌≡◌, ◌≢◌, ℕ, ◌<◌, ◌^◌, length, reverse, All, IfOk, slice_index_or};
+ghost use Rattle.vt_definitions.specs.Dealing.{sampler_of, own_count};
 ghost use Rattle.vt_sampler.specs.Samplers.{own_rows};
 ghost use Rattle.vt_schedules.specs.declared.bag.RowJob.{RowJob as Job};
 ghost use Rattle.vt_schedules.specs.SharedRows.{FitsRow, rows_of};
@@ -13,10 +13,9 @@ use crate::schedule::Schedule;
 use std::alloc::Global;
 use std::mem;
 use std::sync::Wait;
-use vt_definitions::sampler_of;
 use vt_outside::{Items, NoMemory};
 
-/// Rows are dealt.
+/// The schedule by which row y is drawn by sampler y modulo their number.
 pub struct Dealt;
 
 /// What samplers share of rows that are dealt.
@@ -48,30 +47,13 @@ fn take_rows(alloc: Global, jobs: &mut [RowJob]) -> Result<Items<RowJob>, NoMemo
     Ok(list)
 }
 
-// Moves the row at a place, if it is the sampler's.
-fn move_row(
-    alloc: Global,
-    jobs: &mut [RowJob],
-    y: u32,
-    samplers: u32,
-    number: u32,
-    own: &mut Items<RowJob>,
-) -> Result<(), NoMemory>
-    requires inside { y < length jobs.old }
-    requires some { 1 ≤ samplers }
-    ensures number { length jobs.new ≡ length jobs.old }
-    ensures others { (z : ℕ) (d : Job) → z ≢ y → slice_index_or jobs.new z d ≡ slice_index_or jobs.old z d }
-    ensures kept { (d : Job) → sampler_of y samplers ≢ number → slice_index_or jobs.new y d ≡ slice_index_or jobs.old y d }
-    ensures moved { OnOk result ((d : Job) → sampler_of y samplers ≡ number
-        → own.new.elements ≡ own.old.elements ++ slice_index_or jobs.old y d ∷ []) }
-    ensures skipped { OnOk result (sampler_of y samplers ≢ number → own.new.elements ≡ own.old.elements) }
+// How many of so many rows a sampler is dealt.
+fn count_own(rows: usize, samplers: u32, number: u32) -> usize
+    requires one_of { number < samplers }
+    requires few { rows < 2 ^ 32 }
+    ensures { result ≡ own_count number samplers rows }
 {
-    if sampler_of(y, samplers) != number {
-        return Ok(());
-    }
-    own.reserve(1)?;
-    own.push(mem::replace(&mut jobs[y as usize], no_row(alloc)));
-    Ok(())
+    (rows + samplers as usize - 1 - number as usize) / samplers as usize
 }
 
 // Takes the rows of a sampler out of their places, from the last on.
@@ -81,7 +63,7 @@ fn deal_rows(
     samplers: u32,
     number: u32,
 ) -> Result<Items<RowJob>, NoMemory>
-    requires some { 1 ≤ samplers }
+    requires one_of { number < samplers }
     requires few { length jobs.old < 2 ^ 32 }
     ensures number { length jobs.new ≡ length jobs.old }
     ensures others { (y : ℕ) (d : Job) → sampler_of y samplers ≢ number → slice_index_or jobs.new y d ≡ slice_index_or jobs.old y d }
@@ -89,18 +71,19 @@ fn deal_rows(
         → (rows_of own.elements ≡ reverse (own_rows number samplers height)) × All (FitsRow height line) own.elements) }
 {
     let mut own = Items::new(alloc);
-    let count = jobs.len();
-    for i in 0..count {
-        let y = count - 1 - i;
-        move_row(alloc, jobs, y as u32, samplers, number, &mut own)?;
+    let rows = count_own(jobs.len(), samplers, number);
+    own.reserve(rows as u64)?;
+    for i in 0..rows {
+        let y = (rows - 1 - i) * samplers as usize + number as usize;
+        own.push(mem::replace(&mut jobs[y], no_row(alloc)));
     }
     Ok(own)
 }
 
 impl Schedule for Dealt {
-    ghost use Rattle.std.specs.Prelude.{true, ◌≡◌, ◌<◌, ◌≤◌, ◌⊎◌, ◌^◌, [], ◌++◌, length, reverse, All};
+    ghost use Rattle.std.specs.Prelude.{true, ◌<◌, ◌^◌, length, All};
     ghost use Rattle.std.proofs.Common.{inr};
-    ghost use Rattle.vt_schedules.specs.SharedRows.{FitsRow, rows_of};
+    ghost use Rattle.vt_schedules.specs.SharedRows.{FitsRow};
     ghost use Rattle.vt_schedules.specs.Dealt.{TookDealt, EndsDealt, AreDealt, AreDealtWays};
     ghost use Rattle.vt_schedules.specs.DealtLaws.{took_dealt_none, dealt_ways};
 
@@ -147,7 +130,6 @@ impl Schedule for Dealt {
         _shared: &mut Nothing,
         home: &mut DealtHome,
         jobs: &mut [RowJob],
-        _samplers: u32,
     ) -> Result<(), NoMemory> {
         home.jobs = take_rows(alloc, jobs)?;
         Ok(())

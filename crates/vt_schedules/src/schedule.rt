@@ -9,7 +9,8 @@ use std::alloc::Global;
 use std::sync::Wait;
 use vt_outside::NoMemory;
 
-/// How the samplers of a pass come by the rows of its picture: each takes the next one by a way of its own.
+/// How the samplers of a pass come by the rows of its picture: each takes the next one by a way of its own. `height` is the number of rows,
+/// `line` the number of bytes of a row.
 pub trait Schedule {
     /// Whether row y is always drawn by sampler y modulo their number.
     const DEALT: bool;
@@ -32,16 +33,16 @@ pub trait Schedule {
     /// What is at home is that of what is shared.
     ghost is_home: { Self.Shared → Self.Home → Type 0 };
 
-    /// Of such a picture these rows were taken between two views of a way, in this order.
+    /// Between these two states of a way these rows were taken, in this order.
     ghost took: { ℕ → ℕ → Self.Own → Self.Own → List ℕ → Type 0 };
 
-    /// And there was nothing more to take.
+    /// They were, and nothing is left to take.
     ghost ended: { ℕ → ℕ → Self.Own → Self.Own → List ℕ → Type 0 };
 
     /// These ways to the rows of such a picture were dealt to the first of so many samplers.
     ghost has_dealt: { Self.Shared → ℕ → ℕ → ℕ → List Self.Own → Self.Home → Type 0 };
 
-    /// And of these, as they are now, the first are back.
+    /// The first of these ways, as they are now, were taken back.
     ghost has_gathered: { Self.Shared → ℕ → ℕ → ℕ → List Self.Own → List Self.Own → Self.Home → Type 0 };
 
     /// What is shared, and what is at home, between passes.
@@ -51,20 +52,19 @@ pub trait Schedule {
     /// What a sampler has between passes.
     fn no_way(alloc: Global) -> Self::Own;
 
-    /// Begins the dealing of the rows of a picture to so many samplers: takes the rows out of their places, with their buffers. It may wait.
+    /// Begins the dealing of the rows of a picture: takes the rows out of their places, with their buffers. It has the bound `Wait` to put
+    /// rows, into a bag that is new and that nobody else has. After a refusal the rows may be gone, and the pass can only be given up.
     fn begin<R: Wait>(
         rt: &R,
         alloc: Global,
         shared: &mut Self::Shared,
         home: &mut Self::Home,
         jobs: &mut [RowJob],
-        samplers: u32,
     ) -> Result<(), NoMemory>
-        requires some { 1 ≤ samplers }
         requires few { length jobs.old < 2 ^ 32 }
         ensures number { length jobs.new ≡ length jobs.old }
         ensures home { OnOk result (is_home shared.new home.new) }
-        ensures dealt { OnOk result ((height line : ℕ) → AreRowsInPlace height line jobs.old
+        ensures dealt { OnOk result ((height line samplers : ℕ) → 1 ≤ samplers → AreRowsInPlace height line jobs.old
             → has_dealt shared.new height line samplers [] home.new) };
 
     /// The way of the next sampler.
@@ -84,7 +84,7 @@ pub trait Schedule {
             → has_dealt shared.now height line samplers owns home.old → length owns ≡ number
             → has_dealt shared.now height line samplers (owns ++ own ∷ []) home.new) };
 
-    /// The next row, or none. It may wait.
+    /// The next row. `None` where nothing is left, or what was taken is no row of the picture. It may wait.
     fn next<R: Wait>(
         rt: &R,
         shared: &Self::Shared,

@@ -17,7 +17,7 @@ use std::mem;
 use std::sync::Wait;
 use vt_outside::NoMemory;
 
-/// Rows are shared by a bag.
+/// The schedule by which each sampler takes the next row from a bag.
 pub struct Shared;
 
 /// A sampler's pass of the bag, while a pass is run.
@@ -104,7 +104,7 @@ fn take_row<R: Wait>(
 }
 
 impl Schedule for Shared {
-    ghost use Rattle.std.specs.Prelude.{false, []};
+    ghost use Rattle.std.specs.Prelude.{false};
     ghost use Rattle.vt_schedules.specs.Bags.{IsPassOfBag};
     ghost use Rattle.vt_schedules.specs.Sharing.{HasBagPass, TookWay, EndedWay, AreSplit, AreBack};
     ghost use Rattle.vt_schedules.specs.SharingLaws.{none_back, took_way_none, all_taken_way};
@@ -146,7 +146,6 @@ impl Schedule for Shared {
         shared: &mut RowBag,
         home: &mut BagHome,
         jobs: &mut [RowJob],
-        _samplers: u32,
     ) -> Result<(), NoMemory> {
         let (rows, pass) = RowBag::new(alloc)?;
         *shared = rows;

@@ -6,8 +6,8 @@ use Rattle.vt_pass_pool.specs.Pools.{AreSamplers, AreAtHome, line_length}
 use Rattle.vt_pass_pool.proofs.Readying.{ready_pool}
 use Rattle.vt_pass_pool.proofs.pool.PassPool.prepare.Goals as goal
 
-pub begin-requires-clause-few : goal.begin-requires-clause-few
-begin-requires-clause-few g c =
+pub begin-requires : goal.begin-requires
+begin-requires g c =
     let n = ap length c.slice_mut.ensures.value in
     let m = c.requires.idle.pool.number in
     let h = c.requires.idle.pool.sides.height_high in
@@ -39,4 +39,4 @@ returns-clause-ready g c =
     c.requires.idle c.slice_mut-2.result.now news lent _ back _ c.open_samplers.new.home c.begin.new.home _ _ c.requires.shape
     (ap length rows_back ∙ c.begin.ensures.number ∙ ap length c.slice_mut.ensures.value)
     (c.reserve.ensures.elements ∙ c.requires.idle.pool.no_lines) (let r = c.in_ok-reserve.ensures.room in let n = c.from.ensures in omega (arith, r, n))
-    (c.in_ok-begin.ensures.dealt k.height (line_length k) placed) c.open_samplers.result e.same e.rows e.ready e.dealt
+    (c.in_ok-begin.ensures.dealt k.height (line_length k) k.count c.requires.idle.pool.some placed) c.open_samplers.result e.same e.rows e.ready e.dealt

@@ -4,4 +4,4 @@ use Rattle.vt_schedules.proofs.shared.SharedSchedule.begin.Goals as goal
 
 pub returns-clause-dealt : goal.returns-clause-dealt
 returns-clause-dealt g c =
-    on_ok c.put_rows.result (λ is height line are. first_split height line c.args.jobs.now c.put_rows.new.rows are is) c.put_rows.ensures.put
+    on_ok c.put_rows.result (λ is height line samplers some are. first_split height line c.args.jobs.now c.put_rows.new.rows are is) c.put_rows.ensures.put
