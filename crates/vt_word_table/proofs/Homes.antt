@@ -4,7 +4,6 @@ use Rattle.std.specs.Prelude.{All, Contains, IsSome, slice_set}
 use Rattle.std.proofs.lemmas.List.{get_or-set_other}
 use Rattle.std.proofs.lemmas.List.Elements.{All-contains, Contains-append_left}
 use Rattle.std.proofs.lemmas.Option.{get_or_from_slice_get, slice_get_within}
-use Rattle.vt_journal.specs.Shape.{Shape}
 use Rattle.vt_journal.specs.Pages.{root_of}
 use Rattle.vt_journal.specs.Changes.{newest}
 use Rattle.vt_journal.specs.Lookups.{is_mapped}
@@ -17,7 +16,7 @@ use Rattle.vt_sampler.specs.GraceTypes.views.PassView.{PassView}
 use Rattle.vt_sampler.specs.GraceTypes.views.WriterView.{WriterView}
 use Rattle.vt_sampler.specs.Values.{WordsValue, PassValue}
 use Rattle.vt_sampler.specs.Tokens.{IsPassOf}
-use Rattle.vt_sampler.specs.LookupNotes.{FitsShape, IsNotedIn, HasHeldMore}
+use Rattle.vt_sampler.specs.LookupNotes.{FitsShape, IsNotedIn}
 use Rattle.vt_grace.specs.WriterViews.{is_out, first_writer, after_look, version_of}
 use Rattle.vt_grace.specs.Giving.{after_giving, after_return, new_pass}
 use Rattle.vt_word_samplers.specs.Views.{StreamerView, IsStreamerOf}
@@ -93,19 +92,6 @@ module _ (v w : WriterView) (number : ℕ) (is : w ≡ after_giving (after_look 
     absent = ap (λ (x : WriterView). is_out x k) is ∙ get_or-set_other v.out number k true false other ∙ home.absent;
     inside = subst (λ (x : WriterView). k < x.sizes.samplers) (sym is) home.inside;
   }
-
--- a pass drew a row
-pub still_own : (words : WordsValue) (s : Shape) (number version : ℕ) (p q : PassValue) → (own : HasOwnPass words s number (Some p)) → own.pass ≡ p
-    → IsPassOf words q → HasHeldMore p.view q.view (version ∷ []) → HasOwnPass words s number (Some q)
-still_own words s number version p q own same of more = record {
-  fits = own.fits;
-  pass = q;
-  has = refl;
-  of = of;
-  rooted = ap (λ (x : PassView). x.rooted) more.rest ∙ ap (λ (x : PassValue). x.view.rooted) (sym same) ∙ own.rooted;
-  own = ap (λ (x : PassView). x.sampler) more.rest ∙ ap (λ (x : PassValue). x.view.sampler) (sym same) ∙ own.own;
-  inside = own.inside;
-}
 
 -- a pass was taken back
 module _ (v w : WriterView) (p : PassView) (is : w ≡ after_return v p) where

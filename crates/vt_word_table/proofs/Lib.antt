@@ -1,3 +1,2 @@
-mod Making
 mod Filling
 mod Homes

@@ -2,10 +2,7 @@
 //! the streamer of the words, which takes passes back.
 #![tactic(auto)]
 
-mod entries;
-mod pause;
 mod table;
-mod waits;
 
 pub use table::{WordReader, WordTable};
 pub use vt_sampler::Nearest;

@@ -2,7 +2,6 @@
 
 ghost use Rattle.std.specs.Prelude.{◌≡◌, None, All, IfOk, length};
 
-use crate::entries::{map_page, put_entry};
 use std::alloc::Global;
 use std::mem;
 use std::sync::Wait;
@@ -10,20 +9,19 @@ use vt_journal::{Geometry, Journal};
 use vt_outside::{Gate, Items, NoMemory};
 use vt_page_table::{PageTable, Planned, Shot};
 use vt_sampler::{Filter, Pass, Words, draw_held};
-use vt_word_samplers::Streamer;
+use vt_word_samplers::{Streamer, map_page, put_entry};
 
 /// The shared words.
 pub struct WordTable;
 
-/// A sampler's pass of the words, while a pass is run.
+/// A sampler's right to read the words, which it has only while a pass of the walk is run.
 #[derive(Drop)]
 pub struct WordReader {
     pub(crate) pass: Option<Pass>,
 }
 
 impl PageTable for WordTable {
-    ghost use Rattle.std.specs.Prelude.{◌≡◌, ◌≤◌, ◌<◌, false, None, length};
-    ghost use Rattle.vt_grace.specs.WriterViews.{is_out};
+    ghost use Rattle.std.specs.Prelude.{◌≡◌, ◌≤◌, length};
     ghost use Rattle.vt_word_samplers.specs.Views.{IsStreamerOf};
     ghost use Rattle.vt_word_samplers.specs.Noted.{IsNotedBy};
     ghost use Rattle.vt_word_table.specs.WordReaders.{IsAtHome, HasOwnPass, given_of, IsNotedIf, EnteredWith, HeldRow, HeldRows, HeldAt};

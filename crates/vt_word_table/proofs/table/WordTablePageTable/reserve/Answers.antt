@@ -1,4 +1,5 @@
-use Rattle.std.proofs.Common.{sym, subst}
+use Rattle.std.proofs.Common.{◌≡◌, ℕ, ◌≤◌, sym, subst, arith}
+use Rattle.std.specs.Prelude.{Result, Ok, Err, OnErr}
 use Rattle.vt_word_samplers.specs.Views.{StreamerView, IsStreamerOf}
 use Rattle.vt_word_table.specs.WordWriters.{HasTakenMore}
 use Rattle.vt_word_table.specs.WordLaws.{taken_none}
@@ -28,3 +29,10 @@ returns-clause-of c =
 pub returns-clause-later : goal.returns-clause-later
 returns-clause-later c = subst (λ (x : StreamerView). HasTakenMore c.args.streamer.now.writer x.writer) (sym c.reserve.ensures.rest)
     (taken_none c.args.streamer.now.writer)
+
+kept_at : {T E : Type 0} (r : Result T E) (old new : ℕ) → OnErr r (new ≡ old) → OnErr r ((m : ℕ) → m ≤ old → m ≤ new)
+kept_at (Ok x) old new same = tt
+kept_at (Err e) old new same = λ m low. omega (arith, low, same)
+
+pub returns-clause-kept : goal.returns-clause-kept
+returns-clause-kept c = kept_at c.reserve.result c.args.streamer.now.spare c.reserve.new.self.spare c.reserve.ensures.refused
