@@ -1,31 +1,21 @@
 -- Pages that are filled, and changes that are logged.
 use Rattle.std.proofs.Common.{◌≡◌, ℕ, zero, suc, ◌+◌, ◌≤◌, inl, inr, ◌⊎◌, false, Option, None, Some, List, [], ◌∷◌, ◌++◌, length, refl, sym, ap, ◌∙◌, subst, arith, length-append}
-use Rattle.std.specs.Prelude.{slice_get, MatchOption}
+use Rattle.std.specs.Prelude.{slice_get}
 use Rattle.vt_definitions.specs.Limits.{most_versions}
 use Rattle.vt_journal.specs.Shape.{Shape}
 use Rattle.vt_journal.specs.declared.changes.Change.{Change}
 use Rattle.vt_journal.specs.declared.changes.Change.TheVariants.{Map}
 use Rattle.vt_journal.specs.declared.changes.Event.TheVariants.{Changed as Made}
-use Rattle.vt_journal.specs.Changes.{Table, IsFree}
 use Rattle.vt_journal.specs.JournalText.{changes_of}
 use Rattle.vt_page_table.specs.PlanTypes.batches.Planned.{Planned}
-use Rattle.vt_page_table.specs.Outcomes.{IsEntryFor, IsVictimOf, victim_events, group_of}
+use Rattle.vt_page_table.specs.Outcomes.{victim_events, group_of}
 use Rattle.vt_page_table.specs.Fills.{AreTexelWords, FillsOne}
 use Rattle.vt_swap.specs.LogTypes.records.LogRecord.{LogRecord}
 use Rattle.vt_swap.specs.LogTypes.records.LogRecord.TheVariants.{Changed, Filled}
 use Rattle.vt_swap.specs.Notes.{AreWordsOf}
-use Rattle.vt_swap.specs.Streamers.{StreamerView, MayBring, HasBrought, victim_changes, victim_records}
+use Rattle.vt_swap.specs.Streamers.{StreamerView, HasBrought, victim_changes, victim_records}
 use Rattle.vt_swap_table.specs.Filled.{AreStoredFills}
 use Rattle.vt_swap_table.specs.SwapWriters.{HasFilledPage, HasLogged}
-
--- a lawful entry may be brought
-by_victim : (s : Shape) (m : Table) (frame : ℕ) (o : Option ℕ) → MatchOption o (IsFree m frame) (IsVictimOf s m frame)
-    → MatchOption o (IsFree m frame) (λ v. m v ≡ Some frame)
-by_victim s m frame None free = free
-by_victim s m frame (Some v) is = is.mapped
-
-pub may_bring : (s : Shape) (frames : ℕ) (m : Table) (e : Planned) → IsEntryFor s frames m e → MayBring m e.page e.frame e.victim
-may_bring s frames m e entry = record { unmapped = entry.unmapped; place = by_victim s m e.frame e.victim entry.place }
 
 changes_group : (o : Option ℕ) (page frame : ℕ) → victim_changes o frame ++ Map page frame ∷ []
     ≡ changes_of (victim_events o frame ++ Made (Map page frame) ∷ [])

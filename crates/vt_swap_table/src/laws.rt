@@ -1,6 +1,6 @@
 //! Laws of rows that are drawn by the log of a page cache: each is the contract of a function that does nothing.
 
-ghost use Rattle.std.specs.Prelude.{◌≡◌, ℕ, ◌≤◌, ◌++◌, Option, Some, IfSome, List, [], slice_get, slice_index_or};
+ghost use Rattle.std.specs.Prelude.{◌≡◌, ℕ, ◌++◌, Option, Some, IfSome, List, [], slice_get, slice_index_or};
 ghost use mathlib.Core.List.{IsPrefix};
 ghost use Rattle.vt_journal.specs.Shape.{Shape};
 ghost use Rattle.vt_page_table.specs.Pages.{IsWithinLimits};

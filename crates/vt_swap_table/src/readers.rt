@@ -40,7 +40,7 @@ pub(crate) fn new_spares(alloc: Global, pages: u32, count: u32) -> Result<Items<
     Ok(spares)
 }
 
-/// Makes so many readers, with counts for as many pages each.
+/// Makes `count` readers, each with a list of counts.
 pub(crate) fn join_readers(
     made: &mut Items<TableReader>,
     spares: &mut Items<Vec<u32>>,

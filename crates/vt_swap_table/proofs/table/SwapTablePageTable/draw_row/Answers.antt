@@ -4,10 +4,18 @@ use Rattle.std.specs.Vec.{with_items}
 use Rattle.std.proofs.lemmas.List.{with_items_is}
 use Rattle.std.proofs.lemmas.Option.{same_Some}
 use Rattle.std.proofs.lemmas.List.Elements.{Contains-append_right}
+use Rattle.vt_swap.specs.LogTypes.frame.FrameKey.{FrameKey}
 use Rattle.vt_swap.specs.Caches.{Cache}
 use Rattle.vt_swap.specs.Slots.{AreSlotsOf}
 use Rattle.vt_swap.specs.Readers.{ReaderView}
 use Rattle.vt_swap_table.proofs.table.SwapTablePageTable.draw_row.Goals as goal
+
+pub draw_row-next-requires-clause-slots : goal.draw_row-next-requires-clause-slots
+draw_row-next-requires-clause-slots g c =
+    let o = c.requires.may.opened in
+    let own = c.in-Some.own in
+    let same : o.reader ≡ own = same_Some o.reader own (sym o.has ∙ sym c.replace-own.ensures.value ∙ c.in-Some.is) in
+    subst (λ (l : List FrameKey). AreSlotsOf own.cache l) (sym c.slice.ensures) (subst (λ (r : ReaderView). AreSlotsOf r.cache c.args.slots.now.elements) same o.of)
 
 pub returns-clause-may : goal.returns-clause-may
 returns-clause-may g c =
