@@ -7,7 +7,7 @@ ghost use Rattle.vt_page_table.specs.Paths.{ArePictureSides};
 ghost use Rattle.vt_page_table.specs.Shots.{shot_row, wants_in_rows};
 ghost use Rattle.vt_page_table.specs.Evidence.{AreShown, AreRaised};
 ghost use Rattle.vt_schedules.specs.Samplers.{row_length};
-ghost use Rattle.vt_schedules.specs.SharedRows.{FitsRow, VersionsRise, rows_of, versions_of};
+ghost use Rattle.vt_schedules.specs.SharedRows.{VersionsRise, rows_of, versions_of};
 ghost use Rattle.vt_pass_rows.specs.DrawnRows.{IsDrawnRow};
 
 use std::sync::Wait;
@@ -36,23 +36,20 @@ fn draw_job<T: PageTable, P: Filter, G: Gate, R: Wait>(
     reader: &mut T::Reader,
     mut job: RowJob,
     shot: &Shot,
-    _height: u32,
-    _line: usize,
     gate: &G,
     counts: &mut [u32],
 ) -> RowJob
     requires may { T.may_draw table.now shot.now.geometry.now number reader.old }
-    requires height { _height ≡ shot.now.path.now.height }
-    requires line { _line ≡ row_length shot.now.depth shot.now.path.now.width }
     requires depth { IsDepth shot.now.depth }
     requires picture { shot.now.picture < length shot.now.path.now.cameras }
-    requires job { FitsRow _height _line job }
+    requires inside { job.row < shot.now.path.now.height }
+    requires full { length job.samples.elements ≡ row_length shot.now.depth shot.now.path.now.width }
     requires pages { length counts.old ≡ pages_of shot.now.geometry.now }
     requires room { (p : ℕ) → p < length counts.old → slice_index counts.old p + 4 * shot.now.path.now.width < 2 ^ 32 }
     ensures may { T.may_draw table.now shot.now.geometry.now number reader.new }
     ensures drew { T.drew_row reader.old reader.new result.version }
     ensures row { result.row ≡ job.row }
-    ensures fits { FitsRow _height _line result }
+    ensures full { length result.samples.elements ≡ length job.samples.elements }
     ensures by { result.sampler ≡ number }
     ensures drawn { let row = shot_row shot.now.geometry.now shot.now.path.now shot.now.picture result.row in
         AreShown P.shown shot.now.geometry.now shot.now.depth result.version (T.says reader.new) row
@@ -120,9 +117,7 @@ pub(crate) fn draw_rows<T: PageTable, S: Schedule, P: Filter, G: Gate, R: Wait>(
         let Some(job) = S::next::<R>(rt, rows, own, height, line) else {
             return;
         };
-        let drawn = draw_job::<T, P, G, R>(
-            rt, table, number, reader, job, shot, height, line, gate, counts,
-        );
+        let drawn = draw_job::<T, P, G, R>(rt, table, number, reader, job, shot, gate, counts);
         kept.push(drawn);
     }
 }

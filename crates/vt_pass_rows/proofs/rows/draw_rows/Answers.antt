@@ -6,7 +6,7 @@ use Rattle.std.proofs.lemmas.List.Elements.{All-nil}
 use Rattle.vt_page_table.specs.Shots.{shot_row, wants_in_rows}
 use Rattle.vt_schedules.proofs.Sharing.{wants-none, wants-push}
 use Rattle.vt_schedules.specs.declared.bag.RowJob.{RowJob}
-use Rattle.vt_schedules.specs.SharedRows.{VersionsRise, rows_of, versions_of}
+use Rattle.vt_schedules.specs.SharedRows.{FitsRow, VersionsRise, rows_of, versions_of}
 use Rattle.vt_schedules.proofs.Taken.{rows_push}
 use Rattle.vt_schedules.proofs.Keepers.{rows_number, versions_push}
 use Rattle.vt_pass_rows.specs.DrawnRows.{IsDrawnRow}
@@ -38,6 +38,12 @@ loop-init g c =
       spare = (let r = c.requires.spare in omega (arith, r));
       number = ap length none;
     }
+
+pub draw_job-drawn-requires-clause-inside : goal.draw_job-drawn-requires-clause-inside
+draw_job-drawn-requires-clause-inside g c = subst (λ (n : ℕ). c.in-Some.job.row < n) c.requires.height c.in-Some.ensures.fits.inside
+
+pub draw_job-drawn-requires-clause-full : goal.draw_job-drawn-requires-clause-full
+draw_job-drawn-requires-clause-full g c = c.in-Some.ensures.fits.full ∙ c.requires.line
 
 pub draw_job-drawn-requires-clause-room : goal.draw_job-drawn-requires-clause-room
 draw_job-drawn-requires-clause-room g c p inside =
@@ -75,6 +81,10 @@ loop-preserved g c =
     let e = c.draw_job-drawn.ensures in
     let now = c.draw_job-drawn.result in
     let versions = reverse (versions_of kept) in
+    let fits : FitsRow c.args.height c.args.line now = record {
+      inside = (let a = e.row in let b = c.in-Some.ensures.fits.inside in omega (arith, a, b));
+      full = e.full ∙ c.in-Some.ensures.fits.full;
+    } in
     let all : c.push.new.self.elements ≡ kept ++ now ∷ [] = c.push.ensures.elements in
     record {
       may = e.may;
@@ -87,7 +97,7 @@ loop-preserved g c =
           (c.in-Some.ensures.some c.args.own.now (rows_of kept) i.took);
       drawn = subst (All (IsDrawnRow table g.P.Filter s d path picture c.args.height c.args.line c.args.number first r)) (sym all)
           (kept_more table g.P.Filter s d path picture c.args.height c.args.line c.args.number first q r versions laws.drew_now laws.drew_then laws.rises
-          laws.since laws.says_more i.drew i.start kept now e.drew i.drawn e.fits e.by e.drawn);
+          laws.since laws.says_more i.drew i.start kept now e.drew i.drawn fits e.by e.drawn);
       rising = subst VersionsRise (sym all)
           (versions_more table g.P.Filter s d path picture c.args.height c.args.line c.args.number first q r versions laws.drew_now laws.drew_then laws.rises
           laws.since laws.says_more i.drew i.start kept now e.drew i.drawn i.rising);
