@@ -22,7 +22,7 @@ use Rattle.vt_streaming.specs.RequestsTypes.report.StreamReport.{StreamReport}
 use Rattle.vt_streaming.specs.BlankReports.{IsBlank}
 use Rattle.vt_page_table.specs.declared.table.PageTable.{Ghosts as TableMeanings}
 use Rattle.vt_pass_stream.specs.Streamed.{area, IsFillOf, FillsOf, HasApplied, HasStreamedAll, HasNotedResult, IsUnderWay}
-use Rattle.vt_pass_stream.proofs.Taking.{flag_was, flag_set}
+use Rattle.vt_streaming.proofs.Taking.{flag_was, flag_set}
 
 -- fills of some results are fills of more
 fill_on : (d texels : ℕ) (batch : List Planned) (xs ys : List Loaded) (page : ℕ) (words : List ℕ) → ((x : Loaded) → Contains xs x → Contains ys x)

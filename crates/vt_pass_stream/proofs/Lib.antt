@@ -1,3 +1,3 @@
-mod Taking
+mod Kept
 mod Lasting
 mod Applying

@@ -1,63 +1,27 @@
 //! A result is applied to the entry of its ticket, and noted.
 
-ghost use Rattle.std.specs.Prelude.{◌≡◌, ℕ, ◌+◌, ◌*◌, ◌<◌, ◌≤◌, false, true, Some, ◌++◌, length, slice_get};
+ghost use Rattle.std.specs.Prelude.{◌≡◌, ℕ, ◌+◌, ◌<◌, ◌≤◌, false, true, Some, ◌++◌, length, slice_get};
 ghost use Rattle.vt_definitions.specs.Depths.{IsDepth};
 ghost use Rattle.vt_streaming.specs.Readings.{is_lost};
 ghost use Rattle.vt_journal.specs.Changes.{newest};
 ghost use Rattle.vt_page_table.specs.Format.{tile_length};
 ghost use Rattle.vt_page_table.specs.PlanTypes.batches.Planned.{Planned as Entry};
-ghost use Rattle.vt_page_table.specs.Outcomes.{IsEntryFor, group_of, victim_events};
+ghost use Rattle.vt_page_table.specs.Outcomes.{IsEntryFor, group_of};
 ghost use Rattle.vt_streaming.specs.BatchRounds.{result_group};
-ghost use Rattle.vt_streaming.specs.TakenResults.{is_new};
 ghost use Rattle.vt_pass_stream.specs.Streamed.{IsBroughtAs, IsAppliedAs, HasApplied, HasNotedResult, is_kept};
 
 use std::sync::Wait;
-use vt_journal::{Change, Event, Events};
+use vt_journal::{Event, Events};
 use vt_outside::Gate;
 use vt_page_table::{Losses, PageTable, Planned};
 use vt_queue::{Loaded, Outcome};
-use vt_streaming::StreamReport;
-
-// Whether a result is for an entry, by its ticket, whose result was not taken.
-fn is_new(taken: &Losses, ticket: usize) -> bool
-    ensures { result ≡ is_new taken.now.elements (length taken.now.elements) ticket }
-{
-    ticket < taken.len() && !*taken.at(ticket)
-}
+use vt_streaming::{StreamReport, is_new, note_group};
 
 /// Whether a result is to be kept: it is for an entry whose result was not taken, and its buffer has so many bytes.
 pub(crate) fn is_kept(size: usize, taken: &Losses, loaded: &Loaded) -> bool
     ensures { result ≡ is_kept size taken.now.elements loaded.now }
 {
     is_new(taken, loaded.request.ticket as usize) && loaded.request.buffer.len() == size
-}
-
-// Notes the events of an entry whose tile was read.
-fn note_group(planned: &Planned, events: &mut Events)
-    requires room { 2 ≤ events.old.spare }
-    ensures events { events.new.elements ≡ events.old.elements ++ group_of planned.now false }
-    ensures room { events.old.spare ≤ events.new.spare + 2 }
-{
-    note_victim(planned, events);
-    events.push(Event::Changed(Change::Map {
-        page: planned.page,
-        frame: planned.frame,
-    }));
-}
-
-// Notes the unmap of an entry's victim, if it has one.
-fn note_victim(planned: &Planned, events: &mut Events)
-    requires room { 1 ≤ events.old.spare }
-    ensures events { events.new.elements ≡ events.old.elements ++ victim_events planned.now.victim planned.now.frame }
-    ensures room { events.old.spare ≤ events.new.spare + 1 }
-{
-    let Some(victim) = planned.victim else {
-        return;
-    };
-    events.push(Event::Changed(Change::Unmap {
-        page: victim,
-        frame: planned.frame,
-    }));
 }
 
 // Applies a result to its entry, or notes that it was lost; tells whether memory was refused.

@@ -1,6 +1,6 @@
 //! A batch is streamed, result by result, until there was one for each entry.
 
-ghost use Rattle.std.specs.Prelude.{◌≡◌, ℕ, ◌+◌, ◌*◌, ◌<◌, ◌≤◌, ◌^◌, ◌++◌, false, true, length, All};
+ghost use Rattle.std.specs.Prelude.{◌≡◌, ℕ, ◌*◌, ◌<◌, ◌^◌, ◌++◌, false, true, length, All};
 ghost use Rattle.vt_definitions.specs.Depths.{IsDepth};
 ghost use Rattle.vt_journal.specs.Changes.{newest};
 ghost use Rattle.vt_page_table.specs.Format.{tile_length};
@@ -14,21 +14,11 @@ ghost use Rattle.vt_pass_stream.specs.Streamed.{HasStreamedAll};
 use crate::results::{is_kept, stream_result};
 use std::sync::Wait;
 use std::thread::Threads;
-use vt_definitions::texel_length;
 use vt_journal::Geometry;
 use vt_outside::Gate;
-use vt_page_table::{PageTable, Planned};
+use vt_page_table::{PageTable, Planned, tile_length};
 use vt_queue::{Loaded, QueuePass, ResultQueue};
 use vt_streaming::{StreamReport, take_result};
-
-// How many bytes a tile has.
-fn tile_size(geometry: &Geometry, depth: u32) -> usize
-    requires { IsDepth depth }
-    ensures { result ≡ tile_length geometry.now depth }
-{
-    let side = geometry.tile() as usize;
-    side * side * texel_length(depth)
-}
 
 /// Takes results until there was one for each entry of a batch, and applies each to the entry of its ticket as it comes: where the
 /// tile was read, the victim is unmapped, the frame filled and the page mapped; where it is lost, that is noted. Other results are
@@ -70,7 +60,7 @@ pub fn stream_into<T: PageTable, Rt: Threads + Wait, G: Gate>(
         ≡ into.old.events.elements ++ result_events batch.now into.new.results.elements }
     ensures refused { result ≡ true → T.refuses }
 {
-    let size = tile_size(geometry, depth);
+    let size = tile_length(geometry, depth);
     let mut refused = false;
     let mut done = 0;
     for _ in rt.forever() {

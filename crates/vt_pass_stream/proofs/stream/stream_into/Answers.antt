@@ -11,7 +11,8 @@ use Rattle.vt_queue.specs.Queues.{queue_view_of}
 use Rattle.vt_streaming.specs.Readings.{is_lost}
 use Rattle.vt_streaming.specs.BatchRounds.{AreLossesOf}
 use Rattle.vt_streaming.specs.TakenResults.{Streams}
-use Rattle.vt_pass_stream.proofs.Taking.{kept_inside, kept_new, kept_full, streams_none, streams_kept}
+use Rattle.vt_streaming.proofs.Taking.{streams_none, streams_kept}
+use Rattle.vt_pass_stream.proofs.Kept.{kept_inside, kept_new, kept_full}
 use Rattle.vt_pass_stream.proofs.Lasting.{begun, under_way, losses_more}
 use Rattle.vt_pass_stream.proofs.stream.stream_into.Goals as goal
 
@@ -61,7 +62,7 @@ stream_result-refused-requires-clause-room g c fine =
 pub stream_result-refused-requires-clause-full : goal.stream_result-refused-requires-clause-full
 stream_result-refused-requires-clause-full g c =
     let x = c.take_result-loaded.result in
-    kept_full _ c.loop.into.taken.elements x (sym c.is_kept.ensures ∙ c.if-is_kept.true) ∙ c.tile_size-size.ensures
+    kept_full _ c.loop.into.taken.elements x (sym c.is_kept.ensures ∙ c.if-is_kept.true) ∙ c.tile_length-size.ensures.value
     ∙ ap (λ (s : Shape). tile_length s c.args.depth) (sym (c.loop.invariant.shape ∙ c.requires.shape))
 
 pub loop-preserved-then-is_kept : goal.loop-preserved-then-is_kept
@@ -74,7 +75,7 @@ loop-preserved-then-is_kept g c =
     let count : length flags ≡ all = i.streams.flags in
     let inside : x.request.ticket < all = subst (λ n. x.request.ticket < n) count (kept_inside _ flags x kept) in
     let full : length x.request.buffer.elements ≡ tile_length (g.T.PageTable.shape c.args.writer.now) c.args.depth =
-    kept_full _ flags x kept ∙ c.tile_size-size.ensures ∙ ap (λ (s : Shape). tile_length s c.args.depth) (sym c.requires.shape) in
+    kept_full _ flags x kept ∙ c.tile_length-size.ensures.value ∙ ap (λ (s : Shape). tile_length s c.args.depth) (sym c.requires.shape) in
     let Full = λ (y : Loaded). length y.request.buffer.elements ≡ tile_length (g.T.PageTable.shape c.args.writer.now) c.args.depth in
     record {
       of = did.of;
