@@ -1,4 +1,5 @@
-//! Bilinear filtering through the cache: the replay of the journals of walks that draw by it.
+//! Bilinear filtering through the cache: the replay of the journals of walks that draw by it. It hands on the machines by which a walk
+//! draws.
 #![tactic(auto)]
 
 mod replay;

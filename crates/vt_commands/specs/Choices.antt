@@ -4,7 +4,7 @@ use Rattle.vt_command_words.specs.declared.machines.MachineChoice.{MachineChoice
 use Rattle.vt_command_words.specs.declared.machines.MachineChoice.TheVariants.{Standard}
 use Rattle.vt_commands.specs.Words.{CommandText, OfStore, OfWalk}
 
--- that of a walk's words; the standard one for all other commands, which draw by none of them
+-- that of a walk's words; the standard one for all other commands, whose words choose none
 abbrev pub choice_in : CommandText → MachineChoice
 choice_in (OfStore asked) = Standard
 choice_in (OfWalk (ReplayCommand words)) = Standard

@@ -3,9 +3,7 @@
 ghost use Rattle.std.specs.Prelude.{◌≡◌, false};
 ghost use Rattle.vt_command_words.specs.Arguments.{texts};
 ghost use Rattle.vt_commands.specs.Words.{shown_words, HasLawfulNumbers};
-ghost use Rattle.vt_command_inputs.specs.Effects.{call_effect, sink_effect};
-ghost use Rattle.vt_command_inputs.specs.Refusals.{refusal_status, refusal_line, Printed, refusal_of_words};
-ghost use Rattle.vt_walk_commands.specs.StoreCommandsCommands.{usage_line};
+ghost use Rattle.vt_command_inputs.specs.Effects.{call_effect};
 ghost use Rattle.vt_command_inputs.specs.CommandSpecs.{EndsBy};
 ghost use Rattle.vt_commands.specs.commands.{spec_of, EndsRun};
 ghost use Rattle.vt_commands.specs.Waits.{is_waiting_name, may_wait, MayWait, no_machines};
@@ -15,7 +13,6 @@ use crate::command::{Command, read_command};
 use std::alloc::Global;
 use std::thread::Threads;
 use vt_command_inputs::{Refusal, print_end, status_of};
-use vt_command_words::WordsError;
 use vt_outside::{Folder, Sink};
 use vt_walk_commands::{perform_store_command, replay, usage_line};
 
@@ -90,14 +87,4 @@ fn perform_at_once<'a, Rt: Threads + Sync, D: Folder, O: Sink>(
         Command::Walk(_) => unreachable!(),
         Command::Trial(_) => unreachable!(),
     }
-}
-
-/// Ends a run whose words could not be read: prints why, and answers the status.
-pub fn refuse_unread<E: Sink>(error: WordsError, err: &mut E) -> u8
-    ensures status { result ≡ refusal_status (refusal_of_words error) }
-    ensures printed { Printed (refusal_line usage_line (refusal_of_words error)) (sink_effect E.Sink err.old err.new) }
-{
-    let end: Result<(), Refusal<'_>> = Err(Refusal::from(error));
-    print_end(&end, usage_line(), err);
-    status_of(&end)
 }

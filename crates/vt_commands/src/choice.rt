@@ -1,4 +1,5 @@
-//! The choice of the machine by which the words have a walk drawn: a machine is a type of `Machines`, and an arm here.
+//! The choice of the machine by which the words have a walk drawn: a machine is a type of `Machines`, an arm here, and one of
+//! `run_chosen` of vtex.
 
 ghost use Rattle.vt_command_words.specs.Walk.{shown_walk, IsLawfulWalk};
 ghost use Rattle.vt_command_inputs.specs.Effects.{call_effect};

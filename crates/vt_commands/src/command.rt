@@ -75,7 +75,7 @@ fn command_of<'a>(walking: WalkingCommand<'a>) -> Command<'a>
     }
 }
 
-/// The machine that the words of a command choose: the standard one where it draws by none of them.
+/// The machine that the words of a command choose: the standard one where it lets the words choose none.
 pub fn choice_of(command: &Command<'_>) -> MachineChoice
     ensures { result ≡ choice_in (shown_words command.now) }
 {

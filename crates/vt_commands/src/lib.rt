@@ -4,10 +4,12 @@
 mod at_once;
 mod choice;
 mod command;
+mod unread;
 mod waiting;
 
-pub use at_once::{may_wait, refuse_unread, run_at_once};
+pub use at_once::{may_wait, run_at_once};
 pub use command::{Command, choice_of, read_command};
+pub use unread::refuse_unread;
 pub use vt_walk_commands::{
     Bilinear, BlendMachine, Machines, PassMachine, StealMachine, SwapMachine, WordMachine,
     usage_line, walk_live, walk_settled,

@@ -2,5 +2,4 @@ pub mod Freeing
 pub mod Handing
 pub mod Keeping
 pub mod Owning
-pub mod Standing
 pub mod Tiles

@@ -1,4 +1,4 @@
-//! A run by machines of four types.
+//! Runs by machines of given types: one for each choice, or one for all.
 
 ghost use Rattle.vt_commands.specs.Arguments.{texts};
 ghost use Rattle.vt_commands.specs.Machines.{machines_of, kind_of};

@@ -47,7 +47,8 @@ fn unread(error: &io::Error) -> Refusal<'static>
 }
 
 // Does the command that the words ask for: a walk draws the nearest texel over shared words with its rows dealt to the samplers, but where
-// its words ask for the swapped table, for shared rows, or for blends. A call by all four machines would pass the limit of the proof's steps.
+// its words ask for the swapped table, for shared rows, or for blends. Each arm names one machine: a call that names all four exceeds the
+// prover's limit of steps.
 fn run_chosen<Rt: Threads + Wait + Sync, D: Folder, O: Sink, E: Sink, G: Gate + Sync>(
     rt: &Rt,
     alloc: Global,
