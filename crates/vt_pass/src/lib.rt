@@ -1,8 +1,8 @@
 //! A pass over words and a streamer that its caller holds: its batch is streamed while its picture is drawn.
 #![tactic(auto)]
 
+mod parts;
 mod pass;
 mod pass_kit;
 
 pub use pass_kit::{PassKit, run_pass, run_pass_by};
-pub use vt_word_workers::{LentShared, WordSampler, WordStreamer};

@@ -1,1 +1,1 @@
-mod NewRows
+pub mod NewRows

@@ -5,7 +5,8 @@ ghost use Rattle.vt_definitions.specs.Dealing.{sampler_of};
 ghost use Rattle.vt_sampler.specs.Samplers.{own_rows};
 ghost use Rattle.vt_schedules.specs.declared.bag.RowJob.{RowJob as Job};
 ghost use Rattle.vt_schedules.specs.SharedRows.{FitsRow, rows_of};
-ghost use Rattle.vt_schedules.specs.Dealt.{AreOwnInPlace};
+ghost use Rattle.vt_schedules.specs.Dealt.{AreOwnInPlace, AreDealt};
+ghost use Rattle.vt_schedules.specs.Rows.{AreRowsInPlace};
 
 use crate::bag::RowJob;
 use crate::jobs::no_row;
@@ -97,6 +98,26 @@ fn deal_rows(
     Ok(own)
 }
 
+impl Dealt {
+    /// Begins the dealing of the rows of a picture as a schedule does. It needs no runtime, since it waits for nobody.
+    pub fn begin_alone(
+        alloc: Global,
+        home: &mut DealtHome,
+        jobs: &mut [RowJob],
+        _samplers: u32,
+    ) -> Result<(), NoMemory>
+        requires some { 1 ≤ _samplers }
+        requires few { length jobs.old < 2 ^ 32 }
+        ensures number { length jobs.new ≡ length jobs.old }
+        ensures home { OnOk result (length home.new.jobs.elements < 2 ^ 32) }
+        ensures dealt { OnOk result ((height line : ℕ) → AreRowsInPlace height line jobs.old
+            → AreDealt height line _samplers [] home.new.jobs.elements) }
+    {
+        home.jobs = take_rows(alloc, jobs)?;
+        Ok(())
+    }
+}
+
 impl Schedule for Dealt {
     ghost use Rattle.std.specs.Prelude.{true, ◌≡◌, ◌<◌, ◌≤◌, ◌⊎◌, ◌^◌, [], ◌++◌, length, reverse, All};
     ghost use Rattle.std.proofs.Common.{inr};
@@ -147,10 +168,9 @@ impl Schedule for Dealt {
         _shared: &mut Nothing,
         home: &mut DealtHome,
         jobs: &mut [RowJob],
-        _samplers: u32,
+        samplers: u32,
     ) -> Result<(), NoMemory> {
-        home.jobs = take_rows(alloc, jobs)?;
-        Ok(())
+        Dealt::begin_alone(alloc, home, jobs, samplers)
     }
 
     fn deal(

@@ -146,3 +146,16 @@ stored_contents s d known journal contents some are k page frame there =
       of_store = is.of_store;
       words = words_are s d is.tile (get_or contents k []) some (is.size ∙ mul_comm (s.tile * s.tile) (texel_length d)) is.words_of;
     }
+
+-- and contents of a journal, as pages that were filled
+pub contents_stored : (s : Shape) (d : ℕ) (known : Option (List ℕ)) (journal : List Change) (contents : List (List ℕ)) → 1 ≤ s.tile
+    → AreStored s d known journal contents → AreStoredPages s d known (IsMappedWith journal contents)
+contents_stored s d known journal contents some are page words is =
+    let its = are is.by page is.frame is.change in
+    record {
+      tile = its.tile;
+      size = its.size;
+      of_store = its.of_store;
+      words_of = subst (AreTexelWords d (s.tile * s.tile) its.tile) (sym its.words ∙ is.content)
+          (texel_words s d its.tile some (its.size ∙ mul_comm (s.tile * s.tile) (texel_length d)));
+    }

@@ -1,3 +1,3 @@
 mod Making
-mod Filling
-mod Homes
+pub mod Filling
+pub mod Homes

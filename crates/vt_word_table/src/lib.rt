@@ -7,5 +7,5 @@ mod pause;
 mod table;
 mod waits;
 
-pub use table::{WordReader, WordTable};
+pub use table::{WordReader, WordTable, no_readers};
 pub use vt_sampler::Nearest;

@@ -207,8 +207,8 @@ impl PageTable for WordTable {
     ghost says_more = { λ q r v note one said. said_more_if q.pass r.pass v note one said };
 }
 
-// So many readers without a pass.
-fn no_readers(alloc: Global, samplers: u32) -> Result<Items<WordReader>, NoMemory>
+/// So many readers without a pass.
+pub fn no_readers(alloc: Global, samplers: u32) -> Result<Items<WordReader>, NoMemory>
     ensures number { IfOk result (λ made. length made.elements ≡ samplers) }
     ensures none { IfOk result (λ made. All (λ r. r.pass ≡ None) made.elements) }
 {

@@ -1,9 +1,9 @@
 use Rattle.std.proofs.Common.{[], sym, subst}
 use Rattle.vt_schedules.specs.Dealt.{AreDealt}
 use Rattle.vt_schedules.proofs.Dealing.{first_dealt}
-use Rattle.vt_schedules.proofs.dealt.DealtSchedule.begin.Goals as goal
+use Rattle.vt_schedules.proofs.dealt.Dealt.begin_alone.Goals as goal
 
 pub returns-clause-dealt : goal.returns-clause-dealt
-returns-clause-dealt g c height line are =
+returns-clause-dealt c height line are =
     subst (AreDealt height line c.args._samplers []) (sym c.in_ok-home.ensures.rows)
     (first_dealt height line c.args._samplers c.args.jobs.now c.requires.some are)
