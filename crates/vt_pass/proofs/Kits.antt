@@ -49,7 +49,7 @@ module _ {F : Type 0} (g : FileMeanings F) (words : WordsValue) (v : StreamerVie
   some_tile : 1 ≤ k.streams.shape.tile
   some_tile = subst (λ (s : Shape). 1 ≤ s.tile) fit.shape (let a = fit.of.lawful.limits.least_tile in omega (arith, a))
 
-  samplers_home : IsIdleSamplers word.ghosts v k.pool
+  pub samplers_home : IsIdleSamplers word.ghosts v k.pool
   samplers_home = record {
     pool = fit.pool.samplers;
     home = λ n a is. record {

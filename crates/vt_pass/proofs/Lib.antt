@@ -1,3 +1,4 @@
+pub use Rattle.vt_word_table.proofs.Growing
 mod Kits
 mod Running
 mod WordsRan

@@ -1,3 +1,4 @@
 pub use Rattle.vt_word_table.specs.Stored
 pub mod WordPools
+pub mod Runs
 pub mod PassKits

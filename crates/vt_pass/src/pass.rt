@@ -7,21 +7,55 @@ ghost use Rattle.vt_pass_pool.specs.Placing.{bytes_of};
 ghost use Rattle.vt_loading.specs.Jobs.{job_of};
 ghost use Rattle.vt_loading.specs.Passes.{IsJobFor, Ran};
 ghost use Rattle.vt_loading.specs.RoundStocks.{AreEmptied};
-ghost use Rattle.vt_pass_machine.specs.Machines.{IsIdle, IsPrepared, IsReady, setup_by, state_by, drawing_by_turns, drawn_by, held_from};
+ghost use Rattle.vt_loading.specs.LoaderPools.{stream_before};
+ghost use Rattle.vt_pass_machine.specs.Machines.{IsIdle, IsPrepared, IsReady, Begun, MayFinish, setup_by, state_by, drawing_by_turns, drawn_by};
 ghost use Rattle.vt_pass_machines.specs.NewRows.{AreNewRows};
+ghost use Rattle.vt_pass.specs.Runs.{HasRun};
 
 use std::marker::PhantomData;
 use std::sync::Wait;
 use std::thread::Threads;
 use vt_grace::Words;
-use vt_load::Queues;
+use vt_load::{QueuedLoader, Queues};
 use vt_loading::{Batch, LoaderPool, PassReport, work_together};
-use vt_outside::{File, Gate};
+use vt_outside::{File, Gate, Items};
 use vt_pass_machine::{begin_pass, end_pass};
 use vt_pass_pool::{
-    Dealt, Filter, LentParts, Nothing, PageTable, PassPool, PassShared, PassStreamer, Schedule, Shot,
+    Dealt, Filter, LentParts, Nothing, PageTable, PassPool, PassSampler, PassShared, PassStreamer,
+    Schedule, Shot,
 };
 use vt_word_table::WordTable;
+
+// Moves the workers of a pass back, and tells what it did.
+fn end_lent<Rt: Threads + Wait, F: File, P: Filter>(
+    rt: &Rt,
+    words: &Words,
+    rows: &Nothing,
+    queues: &Queues,
+    streams: &mut LoaderPool<F>,
+    pool: &mut PassPool<WordTable, Dealt>,
+    loaders: Items<QueuedLoader<F>>,
+    samplers: Items<PassSampler<WordTable, Dealt>>,
+    own: &mut PassStreamer<WordTable>,
+    shot: &Shot<'_>,
+    batch: &Batch,
+) -> PassReport
+    requires { (b : Begun _ _ _ _ _ _ _ _ _) × MayFinish F.File ⟦<WordTable as PageTable>⟧ ⟦<Dealt as Schedule>⟧ P.Filter words.now rows.now
+        queues.now streams.old pool.old (job_of shot.now batch.now.elements) loaders.elements samplers.elements own.old b }
+    ensures run { (b : Begun _ _ _ _ _ _ _ _ _) → MayFinish F.File ⟦<WordTable as PageTable>⟧ ⟦<Dealt as Schedule>⟧ P.Filter words.now
+        rows.now queues.now streams.old pool.old (job_of shot.now batch.now.elements) loaders.elements samplers.elements own.old b
+        → HasRun F.File P.Filter words.now (job_of shot.now batch.now.elements) result
+        (state_by F.File (length b.streamer.writer.owners) b.streamer.writer.writer.journal (stream_before streams.old b.stream) pool.old)
+        b.streamer.writer b.samplers own.new streams.new pool.new }
+    ensures emptied { AreEmptied queues.now streams.new.round.asks own.new.answers }
+{
+    match end_pass::<Rt, F, WordTable, Dealt, P>(
+        rt, words, rows, queues, streams, pool, loaders, samplers, own, shot, batch,
+    ) {
+        Ok(report) => report,
+        Err(_) => unreachable!(),
+    }
+}
 
 // Draws the picture of a shot by a filter and streams the batch, for which samplers and loaders are ready, at the same time. It may wait.
 fn draw_and_stream<Rt: Threads + Wait + Sync, F: File + Send, P: Filter + Sync, G: Gate + Sync>(
@@ -39,13 +73,9 @@ fn draw_and_stream<Rt: Threads + Wait + Sync, F: File + Send, P: Filter + Sync, 
     requires ready { IsReady F.File ⟦<WordTable as PageTable>⟧ ⟦<Dealt as Schedule>⟧ words.now rows.now queues.now own.old streams.old pool.old
         batch.now.elements }
     requires job { IsJobFor (setup_by F.File (length own.old.writer.owners) streams.old pool.old) (job_of shot.now batch.now.elements) }
-    ensures ran { Ran (drawing_by_turns P.Filter ⟦<Dealt as Schedule>⟧.DEALT)
-        (drawn_by ⟦<WordTable as PageTable>⟧ P.Filter ⟦<Dealt as Schedule>⟧.DEALT pool.new (Some own.new)) (job_of shot.now batch.now.elements) result
-        (state_by F.File (length own.old.writer.owners) own.old.writer.writer.journal streams.old pool.old)
-        (state_by F.File (length own.new.writer.owners) own.new.writer.writer.journal streams.new pool.new) }
-    ensures idle { IsIdle F.File ⟦<WordTable as PageTable>⟧ words.now own.new streams.new pool.new }
-    ensures held { held_from ⟦<WordTable as PageTable>⟧ P.Filter own.old.writer pool.old.samplers.elements (Some own.new) pool.new
-        (job_of shot.now batch.now.elements) result.rows.elements }
+    ensures run { HasRun F.File P.Filter words.now (job_of shot.now batch.now.elements) result
+        (state_by F.File (length own.old.writer.owners) own.old.writer.writer.journal streams.old pool.old) own.old.writer
+        pool.old.samplers.elements own.new streams.new pool.new }
     ensures emptied { AreEmptied queues.now streams.new.round.asks own.new.answers }
 {
     let mut loaders = streams.detach(queues, &mut own.answers);
@@ -68,12 +98,9 @@ fn draw_and_stream<Rt: Threads + Wait + Sync, F: File + Send, P: Filter + Sync, 
         batch.slice(),
         gate,
     );
-    match end_pass::<Rt, F, WordTable, Dealt, P>(
+    end_lent::<Rt, F, P>(
         rt, words, rows, queues, streams, pool, loaders, samplers, own, shot, batch,
-    ) {
-        Ok(report) => report,
-        Err(_) => unreachable!(),
-    }
+    )
 }
 
 /// Gives the samplers their passes, puts the requests of a batch, and then draws the picture of a shot by a filter and streams the batch at

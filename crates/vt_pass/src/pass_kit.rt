@@ -12,7 +12,7 @@ ghost use Rattle.vt_loading.specs.Passes.{MapsRoot, IsJobFor};
 ghost use Rattle.vt_loading.specs.RoundStocks.{AreEmptied};
 ghost use Rattle.vt_pass.specs.PassKits.{IsWorkerPool, IsIdlePool, IsPreparedFor, IsSamePool, PoolRan, pool_rows, pool_setup, pool_state};
 
-use crate::parts::{pool_parts, spare_parts};
+use crate::parts::kit_parts;
 use crate::pass::begin_and_draw;
 use std::alloc::Global;
 use std::mem;
@@ -65,12 +65,8 @@ impl<F: File> PassKit<F> {
         ensures stores { IfOk result (λ k. k.streams.stores ≡ stores.elements) }
         ensures refused { IfErr result (λ e. e.0.elements ≡ stores.elements) }
     {
-        let (rows, pool) = match pool_parts(alloc, geometry, path, crew, depth) {
-            Ok(parts) => parts,
-            Err(refusal) => return Err((stores, refusal)),
-        };
-        match spare_parts(alloc, geometry, depth) {
-            Ok((queues, own, asks)) => Ok(PassKit {
+        match kit_parts(alloc, geometry, path, crew, depth) {
+            Ok((queues, own, asks, rows, pool)) => Ok(PassKit {
                 queues,
                 own,
                 rows,

@@ -1,3 +1,4 @@
+pub use Rattle.vt_word_samplers.proofs.Growing
 mod Making
 pub mod Filling
 pub mod Homes
