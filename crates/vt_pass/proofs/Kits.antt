@@ -5,12 +5,12 @@ use Rattle.std.proofs.lemmas.Option.{slice_get_within}
 use Rattle.vt_outside.specs.declared.outside.File.{Ghosts as FileMeanings}
 use Rattle.vt_load.specs.Shape.{Shape}
 use Rattle.vt_load.specs.declared.queued.Queues.{Queues}
-use Rattle.vt_pass_pool.specs.Pages.{IsWithinLimits}
-use Rattle.vt_pass_pool.specs.JournalTypes.changes.Change.{Change}
-use Rattle.vt_pass_pool.specs.Changes.{newest}
-use Rattle.vt_pass_pool.specs.SchedulesRows.{AreRowsInPlace}
-use Rattle.vt_pass_pool.specs.Pools.{IsPool, IsIdlePool as IsIdleSamplers, IsDealtPool, line_length}
-use Rattle.vt_pass_pool.specs.Stills.{IsStill}
+use Rattle.vt_pass_machine.specs.Pages.{IsWithinLimits}
+use Rattle.vt_pass_machine.specs.JournalTypes.changes.Change.{Change}
+use Rattle.vt_pass_machine.specs.Changes.{newest}
+use Rattle.vt_pass_machine.specs.SchedulesRows.{AreRowsInPlace}
+use Rattle.vt_pass_machine.specs.Pools.{IsPool, IsIdlePool as IsIdleSamplers, IsDealtPool, line_length}
+use Rattle.vt_pass_machine.specs.Stills.{IsStill}
 use Rattle.vt_loading.specs.PlanTypes.batches.Planned.{Planned}
 use Rattle.vt_loading.specs.MachineTypes.crew.Crew.{Crew}
 use Rattle.vt_loading.specs.Machines.{known_bytes}
@@ -33,7 +33,7 @@ use Rattle.vt_pass_machine.specs.Machines.{Agree, IsIdle, IsPrepared}
 use Rattle.vt_pass_machine.proofs.Preparing.{prepared_once}
 use Rattle.vt_pass.specs.declared.pass_kit.PassKit.{PassKit}
 use Rattle.vt_pass.specs.WordPools.{WordSampler, WordPool, WordStreamer, HaveNoPass}
-use Rattle.vt_pass.specs.PassKits.{IsWorkerPool, IsFitPool, IsIdlePool, IsPreparedFor, IsSamePool, AreAllIn, with_writer}
+use Rattle.vt_pass.specs.PassKits.{IsWholeKit, IsFitKit, IsIdleKit, IsPreparedFor, IsSameKit, AreAllIn, with_writer}
 
 -- what is at a place of a list
 there : {X : Type 0} (xs : List X) (n : ℕ) → n < length xs → (x : X) × (slice_get xs n ≡ Some x)
@@ -42,8 +42,8 @@ there (x ∷ xs) zero inside = (x, refl)
 there (x ∷ xs) (suc n) inside = there xs n (omega (arith, inside))
 
 -- a kit between passes
-module _ {F : Type 0} (g : FileMeanings F) (words : WordsValue) (v : StreamerView) (k : PassKit F) (idle : IsIdlePool g words v k) where
-  abbrev fit : IsFitPool g words v k
+module _ {F : Type 0} (g : FileMeanings F) (words : WordsValue) (v : StreamerView) (k : PassKit F) (idle : IsIdleKit g words v k) where
+  abbrev fit : IsFitKit g words v k
   fit = idle.fit
 
   some_tile : 1 ≤ k.streams.shape.tile
@@ -78,7 +78,7 @@ module _ {F : Type 0} (g : FileMeanings F) (words : WordsValue) (v : StreamerVie
   }
 
   -- it is prepared, once all memory was taken
-  module _ (w : StreamerView) (l : PassKit F) (rest : w ≡ record v { spare = w.spare }) (same : IsSamePool g k l) (batch : List Planned)
+  module _ (w : StreamerView) (l : PassKit F) (rest : w ≡ record v { spare = w.spare }) (same : IsSameKit g k l) (batch : List Planned)
       (lawful : IsBatchFor v.shape (length v.owners) (newest v.writer.journal) batch) (room : 2 * length batch ≤ w.spare)
       (geometry : l.own.geometry ≡ k.own.geometry) (depth : l.own.depth ≡ k.own.depth)
       (prepared : IsPreparedStream g l.queues l.own.answers l.own.report l.streams batch)
@@ -167,7 +167,7 @@ module _ {F : Type 0} (g : FileMeanings F) (words : WordsValue) (u : WordStreame
   number_is : length u.writer.writer.out ≡ l.pool.count
   number_is = idle.fit.of.sound.outs ∙ ap (λ (x : Sizes). x.samplers) idle.fit.of.seen ∙ samplers ∙ sym idle.agree.count
 
-  pub idle_kit : IsIdlePool g words u.writer l
+  pub idle_kit : IsIdleKit g words u.writer l
   idle_kit = record {
     fit = record {
       of = idle.fit.of;

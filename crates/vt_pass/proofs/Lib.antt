@@ -1,4 +1,5 @@
 pub use Rattle.vt_word_table.proofs.Growing
+mod NewRows
 mod Kits
 mod Running
 mod WordsRan

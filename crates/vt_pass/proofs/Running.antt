@@ -11,14 +11,14 @@ use Rattle.vt_loading.specs.MachineTypes.crew.PassReport.{PassReport}
 use Rattle.vt_loading.specs.Machines.{MachineState}
 use Rattle.vt_loading.specs.Passes.{IsJobFor, EndsPassRun}
 use Rattle.vt_loading.specs.LoaderPools.{LoaderPoolView, AreLoadersOut, stream_before}
-use Rattle.vt_pass_pool.specs.PicturesTypes.filters.Filter.{Ghosts as FilterMeanings}
-use Rattle.vt_pass_pool.specs.Samplers.{row_length}
-use Rattle.vt_pass_pool.specs.PassSamplers.{HasDrawn}
-use Rattle.vt_pass_pool.specs.SchedulesTypes.dealt.Dealt.{Dealt}
-use Rattle.vt_pass_pool.specs.SchedulesTypes.dealt.Nothing.{Nothing}
-use Rattle.vt_pass_pool.specs.SchedulesTypes.dealt.DealtWay.{DealtWay}
-use Rattle.vt_pass_pool.specs.SchedulesTypes.dealt.DealtHome.{DealtHome}
-use Rattle.vt_pass_pool.specs.PassTasks.{HasStreamed}
+use Rattle.vt_pass_machine.specs.PicturesTypes.filters.Filter.{Ghosts as FilterMeanings}
+use Rattle.vt_pass_machine.specs.Samplers.{row_length}
+use Rattle.vt_pass_machine.specs.PassSamplers.{HasDrawn}
+use Rattle.vt_pass_machine.specs.SchedulesTypes.dealt.Dealt.{Dealt}
+use Rattle.vt_pass_machine.specs.SchedulesTypes.dealt.Nothing.{Nothing}
+use Rattle.vt_pass_machine.specs.SchedulesTypes.dealt.DealtWay.{DealtWay}
+use Rattle.vt_pass_machine.specs.SchedulesTypes.dealt.DealtHome.{DealtHome}
+use Rattle.vt_pass_machine.specs.PassTasks.{HasStreamed}
 use Rattle.vt_word_table.specs.Values.{WordsValue}
 use Rattle.vt_word_table.specs.Views.{StreamerView}
 use Rattle.vt_word_table.specs.declared.table.WordTable.{WordTable}
@@ -29,7 +29,7 @@ use Rattle.vt_pass_machine.specs.declared.machine.Machine.{Machine}
 use Rattle.vt_pass_machine.specs.Machines.{setup_by, state_by, drawing_by_turns, drawn_by, held_from, IsIdle, IsReady, IsDetached, Begun, MayFinish, MayFinishOut}
 use Rattle.vt_pass_machine.specs.Laws.{come_back, has_ended}
 use Rattle.vt_pass.specs.WordPools.{WordSampler, WordPool, WordStreamer}
-use Rattle.vt_pass.specs.Runs.{HasRun}
+use Rattle.vt_pass.specs.Runs.{HasRunLent}
 
 abbrev WordMachine : Type 0 → Type 0 → Type 0
 WordMachine F P = Machine F WordTable Dealt P WordsValue WordReader StreamerView Nothing DealtWay DealtHome
@@ -82,9 +82,9 @@ module _ {F P : Type 0} (g : FileMeanings F) (filter : FilterMeanings P) (words 
     pub ran_back : (u : WordStreamer) (o : LoaderPoolView F) (p : WordPool) (report : PassReport)
         → ((z : Begun F WordTable Dealt WordsValue WordReader StreamerView Nothing DealtWay DealtHome)
         → MayFinish g word.ghosts dealt.ghosts filter words rows q l s job c f d z
-        → HasRun g filter words job report (state_by g (length z.streamer.writer.owners) z.streamer.writer.writer.journal (stream_before l z.stream) s)
+        → HasRunLent g filter words job report (state_by g (length z.streamer.writer.owners) z.streamer.writer.writer.journal (stream_before l z.stream) s)
         z.streamer.writer z.samplers u o p)
-        → HasRun g filter words job report (state_by g (length own.writer.owners) own.writer.writer.journal k r) own.writer r.samplers.elements u o p
+        → HasRunLent g filter words job report (state_by g (length own.writer.owners) own.writer.writer.journal k r) own.writer r.samplers.elements u o p
     unfolding detached
     ran_back u o p report run =
         let both = has_ended g word.ghosts dealt.ghosts filter job m n a c e f b d ready job_is detached number number_f did_load did_draw did_stream
@@ -97,8 +97,8 @@ pub told : {F P : Type 0} (g : FileMeanings F) (filter : FilterMeanings P) (word
     → result ≡ Ok report → EndsPassRun (drawing_by_turns filter dealt.ghosts.DEALT) (drawn_by word.ghosts filter dealt.ghosts.DEALT r (Some u))
     (IsIdle g word.ghosts words u k r) job result before (state_by g (length u.writer.owners) u.writer.writer.journal k r)
     × IfOk result (λ (x : PassReport). held_from word.ghosts filter v samplers (Some u) r job x.rows.elements)
-    → HasRun g filter words job report before v samplers u k r
+    → HasRunLent g filter words job report before v samplers u k r
 told g filter words job before v samplers u k r (Ok x) report is (ends, held) =
-    subst (λ (y : PassReport). HasRun g filter words job y before v samplers u k r) (let e : x ≡ report = cc is in e)
+    subst (λ (y : PassReport). HasRunLent g filter words job y before v samplers u k r) (let e : x ≡ report = cc is in e)
     (record { ran = ends.ran; idle = ends.goes_on; held = held })
 told g filter words job before v samplers u k r (Err refusal) report is both = absurd (cc is)

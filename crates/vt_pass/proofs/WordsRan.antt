@@ -3,18 +3,18 @@ use Rattle.std.proofs.Common.{◌≡◌, ℕ, ◌≤◌, Option, Some, List, [],
 use Rattle.std.specs.Prelude.{slice_get, slice_index_or, IsSome}
 use Rattle.vt_outside.specs.declared.outside.File.{Ghosts as FileMeanings}
 use Rattle.vt_load.specs.Shape.{Shape}
-use Rattle.vt_pass_pool.specs.Pages.{root_of}
-use Rattle.vt_pass_pool.specs.Dealing.{sampler_of}
-use Rattle.vt_pass_pool.specs.Evidence.{AreShown}
-use Rattle.vt_pass_pool.specs.Shots.{shot_row}
-use Rattle.vt_pass_pool.specs.Paths.{PathView}
-use Rattle.vt_pass_pool.specs.PicturesTypes.filters.Filter.{Ghosts as FilterMeanings}
-use Rattle.vt_pass_pool.specs.JournalTypes.changes.Change.{Change}
-use Rattle.vt_pass_pool.specs.JournalTypes.changes.RowLine.{RowLine}
-use Rattle.vt_pass_pool.specs.Changes.{newest}
-use Rattle.vt_pass_pool.specs.Placing.{bytes_of}
-use Rattle.vt_pass_pool.specs.Stills.{IsStill}
-use Rattle.vt_pass_pool.specs.Ended.{IsHeldRow}
+use Rattle.vt_pass_machine.specs.Pages.{root_of}
+use Rattle.vt_pass_machine.specs.Dealing.{sampler_of}
+use Rattle.vt_pass_machine.specs.Evidence.{AreShown}
+use Rattle.vt_pass_machine.specs.Shots.{shot_row}
+use Rattle.vt_pass_machine.specs.Paths.{PathView}
+use Rattle.vt_pass_machine.specs.PicturesTypes.filters.Filter.{Ghosts as FilterMeanings}
+use Rattle.vt_pass_machine.specs.JournalTypes.changes.Change.{Change}
+use Rattle.vt_pass_machine.specs.JournalTypes.changes.RowLine.{RowLine}
+use Rattle.vt_pass_machine.specs.Changes.{newest}
+use Rattle.vt_pass_machine.specs.Placing.{bytes_of}
+use Rattle.vt_pass_machine.specs.Stills.{IsStill}
+use Rattle.vt_pass_machine.specs.Ended.{IsHeldRow}
 use Rattle.vt_load.specs.declared.queued.Queues.{Queues}
 use Rattle.vt_loading.specs.PlanTypes.batches.Planned.{Planned}
 use Rattle.vt_loading.specs.MachineTypes.crew.Crew.{Crew}
@@ -31,13 +31,13 @@ use Rattle.vt_word_table.specs.Views.{StreamerView, IsStreamerOf}
 use Rattle.vt_word_table.specs.WordLaws.{taken_none, came_within}
 use Rattle.vt_word_table.specs.contracts.table.WordTablePageTable.TheImpl as word
 use Rattle.vt_schedules.specs.contracts.dealt.DealtSchedule.TheImpl as dealt
-use Rattle.vt_pass_pool.specs.SchedulesTypes.dealt.Nothing.{Nothing}
+use Rattle.vt_pass_machine.specs.SchedulesTypes.dealt.Nothing.{Nothing}
 use Rattle.vt_pass_machine.specs.Machines.{setup_by, state_by, drawing_by_turns, drawn_by, held_from, IsIdle, IsPrepared, IsReady}
-use Rattle.vt_pass_machines.specs.NewRows.{AreNewRows}
-use Rattle.vt_pass_machines.proofs.NewRows.{new_rows}
+use Rattle.vt_pass.specs.NewRows.{AreNewRows}
+use Rattle.vt_pass.proofs.NewRows.{new_rows}
 use Rattle.vt_pass.specs.declared.pass_kit.PassKit.{PassKit}
 use Rattle.vt_pass.specs.WordPools.{WordSampler, WordPool, WordStreamer}
-use Rattle.vt_pass.specs.PassKits.{IsFitPool, IsIdlePool, IsPreparedFor, PoolRan, pool_setup, pool_state, pool_drawn, pool_rows, with_writer}
+use Rattle.vt_pass.specs.PassKits.{IsFitKit, IsIdleKit, IsPreparedFor, KitRan, kit_setup, kit_state, kit_drawn, kit_rows, with_writer}
 
 -- the samplers of a prepared pass were given their passes, and its requests were put
 module _ {F : Type 0} (g : FileMeanings F) (words : WordsValue) (own t : WordStreamer) (k l : LoaderPoolView F) (r s : WordPool)
@@ -99,11 +99,11 @@ frames_are words v of = ap (λ (z : Sizes). z.frames) of.sizes
 
 -- a pass of a kit was run
 module _ {F P : Type 0} (g : FileMeanings F) (filter : FilterMeanings P) (words : WordsValue) (v w : StreamerView) (k l : PassKit F) (job : Job) where
-  pub asked_root : (batch : List Planned) → IsPreparedFor g words v k batch → MapsRoot (pool_state g words v.writer.journal k)
+  pub asked_root : (batch : List Planned) → IsPreparedFor g words v k batch → MapsRoot (kit_state g words v.writer.journal k)
       → IsSome (newest v.writer.journal (root_of v.shape))
   asked_root batch prepared root = subst (λ (s : Shape). IsSome (newest v.writer.journal (root_of s))) (sym prepared.idle.fit.shape) root
 
-  pub asked_job : IsJobFor (pool_setup g words k) job → IsJobFor (setup_by g (length v.owners) k.streams k.pool) job
+  pub asked_job : IsJobFor (kit_setup g words k) job → IsJobFor (setup_by g (length v.owners) k.streams k.pool) job
   asked_job is = record { shape = is.shape; depth = is.depth; width = is.width; height = is.height; picture = is.picture }
 
   module _ (report : PassReport) (u : WordStreamer) (u_is : u.writer ≡ w) (of : IsStreamerOf words v)
@@ -116,7 +116,7 @@ module _ {F P : Type 0} (g : FileMeanings F) (filter : FilterMeanings P) (words 
     same_crew = ap (λ (x : Setup). x.crew) ran.setup
 
     drawn_words : (path : PathView) (i y version : ℕ) (bytes : List ℕ) → drawn_by word.ghosts filter dealt.ghosts.DEALT l.pool (Some u) path i y version bytes
-        → pool_drawn filter l u.writer path i y version bytes
+        → kit_drawn filter l u.writer path i y version bytes
     drawn_words path i y version bytes was = record {
       drawn = subst (λ (z : Shape × ℕ). AreShown filter.shown z.0 z.1 version (IsNotedBy u.writer.writer) (shot_row z.0 path i y) path.width bytes)
           (λ j. (idle.agree.shape j, idle.agree.depth j)) was.drawn;
@@ -126,8 +126,8 @@ module _ {F P : Type 0} (g : FileMeanings F) (filter : FilterMeanings P) (words 
       held = was.at.held;
     }
 
-    words_ran : Ran (drawing_of filter) (pool_drawn filter l u.writer) job report (pool_state g words v.writer.journal k)
-        (pool_state g words u.writer.writer.journal l)
+    words_ran : Ran (drawing_of filter) (kit_drawn filter l u.writer) job report (kit_state g words v.writer.journal k)
+        (kit_state g words u.writer.writer.journal l)
     words_ran =
         let moved = subst (λ (z : ℕ × ℕ). Ran (drawing_by_turns filter dealt.ghosts.DEALT)
         (drawn_by word.ghosts filter dealt.ghosts.DEALT l.pool (Some u)) job report (state_by g z.0 v.writer.journal k.streams k.pool)
@@ -143,17 +143,17 @@ module _ {F P : Type 0} (g : FileMeanings F) (filter : FilterMeanings P) (words 
             count = moved.picture.count;
             full = moved.picture.full;
             replayed = moved.picture.replayed;
-            from_draws = λ y line is. drawn_words job.scene.path job.picture y line.version (slice_index_or (pool_rows l) y [])
+            from_draws = λ y line is. drawn_words job.scene.path job.picture y line.version (slice_index_or (kit_rows l) y [])
                 (moved.picture.from_draws y line is);
             all_counts = moved.picture.all_counts;
             counts_are = moved.picture.counts_are;
           };
         }
 
-    pub pool_ran : PoolRan g filter words job report v k w l
-    pool_ran = subst (λ (x : StreamerView). PoolRan g filter words job report v k x l) u_is (record {
+    pub kit_ran : KitRan g filter words job report v k w l
+    kit_ran = subst (λ (x : StreamerView). KitRan g filter words job report v k x l) u_is (record {
       ran = words_ran;
-      came = subst (λ (z : Shape × ℕ). AreNewRows filter z.0 z.1 v.writer u.writer.writer job.scene.path job.picture report.rows.elements (pool_rows l))
+      came = subst (λ (z : Shape × ℕ). AreNewRows filter z.0 z.1 v.writer u.writer.writer job.scene.path job.picture report.rows.elements (kit_rows l))
           (λ j. (idle.agree.shape j, idle.agree.depth j)) came;
     })
 

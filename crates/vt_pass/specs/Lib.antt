@@ -1,4 +1,5 @@
 pub use Rattle.vt_word_table.specs.Stored
 pub mod WordPools
 pub mod Runs
+pub mod NewRows
 pub mod PassKits

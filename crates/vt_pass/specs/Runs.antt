@@ -1,7 +1,7 @@
 -- The end of a pass over words that are lent.
 use Rattle.std.specs.Prelude.{Some, List, length}
 use Rattle.vt_outside.specs.declared.outside.File.{Ghosts as FileMeanings}
-use Rattle.vt_pass_pool.specs.PicturesTypes.filters.Filter.{Ghosts as FilterMeanings}
+use Rattle.vt_pass_machine.specs.PicturesTypes.filters.Filter.{Ghosts as FilterMeanings}
 use Rattle.vt_loading.specs.MachineTypes.crew.PassReport.{PassReport}
 use Rattle.vt_loading.specs.Jobs.{Job}
 use Rattle.vt_loading.specs.Machines.{MachineState}
@@ -16,7 +16,7 @@ use Rattle.vt_pass.specs.WordPools.{WordSampler, WordPool, WordStreamer}
 
 -- a pass that began with this writer and these samplers was run, by its streamer, its loaders and its samplers after it: they are those of a machine
 -- between its passes, and the rows came in it
-pub record HasRun {F P : Type 0} (g : FileMeanings F) (filter : FilterMeanings P) (words : WordsValue) (job : Job) (report : PassReport) (before : MachineState)
+pub record HasRunLent {F P : Type 0} (g : FileMeanings F) (filter : FilterMeanings P) (words : WordsValue) (job : Job) (report : PassReport) (before : MachineState)
     (v : StreamerView) (samplers : List WordSampler) (u : WordStreamer) (k : LoaderPoolView F) (r : WordPool) : Type 0 where
   pub ran : Ran (drawing_by_turns filter dealt.ghosts.DEALT) (drawn_by word.ghosts filter dealt.ghosts.DEALT r (Some u)) job report before
       (state_by g (length u.writer.owners) u.writer.writer.journal k r)

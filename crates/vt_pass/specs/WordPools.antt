@@ -4,13 +4,13 @@ use Rattle.vt_word_table.specs.Values.{WordsValue}
 use Rattle.vt_word_table.specs.Views.{StreamerView}
 use Rattle.vt_word_table.specs.declared.table.WordTable.{WordTable}
 use Rattle.vt_word_table.specs.declared.table.WordReader.{WordReader}
-use Rattle.vt_pass_pool.specs.SchedulesTypes.dealt.Dealt.{Dealt}
-use Rattle.vt_pass_pool.specs.SchedulesTypes.dealt.Nothing.{Nothing}
-use Rattle.vt_pass_pool.specs.SchedulesTypes.dealt.DealtWay.{DealtWay}
-use Rattle.vt_pass_pool.specs.SchedulesTypes.dealt.DealtHome.{DealtHome}
-use Rattle.vt_pass_pool.specs.PassRowsTypes.sampler.PassSampler.{PassSampler}
-use Rattle.vt_pass_pool.specs.declared.pool.PassPool.{PassPool}
-use Rattle.vt_pass_pool.specs.declared.shared.PassStreamer.{PassStreamer}
+use Rattle.vt_pass_machine.specs.SchedulesTypes.dealt.Dealt.{Dealt}
+use Rattle.vt_pass_machine.specs.SchedulesTypes.dealt.Nothing.{Nothing}
+use Rattle.vt_pass_machine.specs.SchedulesTypes.dealt.DealtWay.{DealtWay}
+use Rattle.vt_pass_machine.specs.SchedulesTypes.dealt.DealtHome.{DealtHome}
+use Rattle.vt_pass_machine.specs.PassRowsTypes.sampler.PassSampler.{PassSampler}
+use Rattle.vt_pass_machine.specs.PassPoolTypes.pool.PassPool.{PassPool}
+use Rattle.vt_pass_machine.specs.PassPoolTypes.shared.PassStreamer.{PassStreamer}
 
 abbrev pub WordSampler : Type 0
 WordSampler = PassSampler WordTable Dealt WordsValue WordReader StreamerView Nothing DealtWay DealtHome

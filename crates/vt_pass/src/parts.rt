@@ -1,9 +1,9 @@
 //! What a kit is made of.
 
 ghost use Rattle.std.specs.Prelude.{◌≡◌, IfOk};
-ghost use Rattle.vt_pass_pool.specs.Depths.{IsDepth};
-ghost use Rattle.vt_pass_pool.specs.Pools.{IsPool, line_length};
-ghost use Rattle.vt_pass_pool.specs.SchedulesRows.{AreRowsInPlace};
+ghost use Rattle.vt_pass_machine.specs.Depths.{IsDepth};
+ghost use Rattle.vt_pass_machine.specs.Pools.{IsPool, line_length};
+ghost use Rattle.vt_pass_machine.specs.SchedulesRows.{AreRowsInPlace};
 ghost use Rattle.vt_loading.specs.Crews.{IsCrew};
 ghost use Rattle.vt_pass.specs.WordPools.{HaveNoPass};
 
@@ -11,7 +11,7 @@ use std::alloc::Global;
 use vt_load::{QueuePass, Queues, Request};
 use vt_loading::{Crew, blank_report, new_queues};
 use vt_outside::NoMemory;
-use vt_pass_pool::{Dealt, Geometry, Nothing, PassPool, PassStreamer, Path, Schedule};
+use vt_pass_machine::{Dealt, Geometry, Nothing, PassPool, PassStreamer, Path, Schedule};
 use vt_streamer::Streamer;
 use vt_word_table::{WordTable, no_readers};
 

@@ -1,16 +1,16 @@
 //! One pass over words that its caller holds.
 
 ghost use Rattle.std.specs.Prelude.{◌≡◌, IsSome, length};
-ghost use Rattle.vt_pass_pool.specs.Pages.{root_of};
-ghost use Rattle.vt_pass_pool.specs.Changes.{newest};
-ghost use Rattle.vt_pass_pool.specs.Placing.{bytes_of};
+ghost use Rattle.vt_pass_machine.specs.Pages.{root_of};
+ghost use Rattle.vt_pass_machine.specs.Changes.{newest};
+ghost use Rattle.vt_pass_machine.specs.Placing.{bytes_of};
 ghost use Rattle.vt_loading.specs.Jobs.{job_of};
 ghost use Rattle.vt_loading.specs.Passes.{IsJobFor, Ran};
 ghost use Rattle.vt_loading.specs.RoundStocks.{AreEmptied};
 ghost use Rattle.vt_loading.specs.LoaderPools.{stream_before};
 ghost use Rattle.vt_pass_machine.specs.Machines.{IsIdle, IsPrepared, IsReady, Begun, MayFinish, setup_by, state_by, drawing_by_turns, drawn_by};
-ghost use Rattle.vt_pass_machines.specs.NewRows.{AreNewRows};
-ghost use Rattle.vt_pass.specs.Runs.{HasRun};
+ghost use Rattle.vt_pass.specs.NewRows.{AreNewRows};
+ghost use Rattle.vt_pass.specs.Runs.{HasRunLent};
 
 use std::marker::PhantomData;
 use std::sync::Wait;
@@ -19,11 +19,11 @@ use vt_grace::Words;
 use vt_load::{QueuedLoader, Queues};
 use vt_loading::{Batch, LoaderPool, PassReport, work_together};
 use vt_outside::{File, Gate, Items};
-use vt_pass_machine::{begin_pass, end_pass};
-use vt_pass_pool::{
-    Dealt, Filter, LentParts, Nothing, PageTable, PassPool, PassSampler, PassShared, PassStreamer,
-    Schedule, Shot,
+use vt_pass_machine::{
+    Dealt, Filter, Nothing, PageTable, PassPool, PassSampler, PassStreamer, Schedule, Shot,
+    begin_pass, end_pass,
 };
+use vt_pass_pool::{LentParts, PassShared};
 use vt_word_table::WordTable;
 
 // Moves the workers of a pass back, and tells what it did.
@@ -44,7 +44,7 @@ fn end_lent<Rt: Threads + Wait, F: File, P: Filter>(
         queues.now streams.old pool.old (job_of shot.now batch.now.elements) loaders.elements samplers.elements own.old b }
     ensures run { (b : Begun _ _ _ _ _ _ _ _ _) → MayFinish F.File ⟦<WordTable as PageTable>⟧ ⟦<Dealt as Schedule>⟧ P.Filter words.now
         rows.now queues.now streams.old pool.old (job_of shot.now batch.now.elements) loaders.elements samplers.elements own.old b
-        → HasRun F.File P.Filter words.now (job_of shot.now batch.now.elements) result
+        → HasRunLent F.File P.Filter words.now (job_of shot.now batch.now.elements) result
         (state_by F.File (length b.streamer.writer.owners) b.streamer.writer.writer.journal (stream_before streams.old b.stream) pool.old)
         b.streamer.writer b.samplers own.new streams.new pool.new }
     ensures emptied { AreEmptied queues.now streams.new.round.asks own.new.answers }
@@ -73,7 +73,7 @@ fn draw_and_stream<Rt: Threads + Wait + Sync, F: File + Send, P: Filter + Sync, 
     requires ready { IsReady F.File ⟦<WordTable as PageTable>⟧ ⟦<Dealt as Schedule>⟧ words.now rows.now queues.now own.old streams.old pool.old
         batch.now.elements }
     requires job { IsJobFor (setup_by F.File (length own.old.writer.owners) streams.old pool.old) (job_of shot.now batch.now.elements) }
-    ensures run { HasRun F.File P.Filter words.now (job_of shot.now batch.now.elements) result
+    ensures run { HasRunLent F.File P.Filter words.now (job_of shot.now batch.now.elements) result
         (state_by F.File (length own.old.writer.owners) own.old.writer.writer.journal streams.old pool.old) own.old.writer
         pool.old.samplers.elements own.new streams.new pool.new }
     ensures emptied { AreEmptied queues.now streams.new.round.asks own.new.answers }

@@ -2,15 +2,15 @@
 
 ghost use Rattle.std.specs.Prelude.{◌≡◌, ◌≤◌, OnOk, length, IfOk, IfErr};
 ghost use Rattle.std.specs.List.{concat};
-ghost use Rattle.vt_pass_pool.specs.Depths.{IsDepth};
-ghost use Rattle.vt_pass_pool.specs.Changes.{newest};
+ghost use Rattle.vt_pass_machine.specs.Depths.{IsDepth};
+ghost use Rattle.vt_pass_machine.specs.Changes.{newest};
 ghost use Rattle.vt_loading.specs.Crews.{IsCrew, last_start};
 ghost use Rattle.vt_loading.specs.Jobs.{job_of};
 ghost use Rattle.vt_loading.specs.Machines.{AreStoresFor};
 ghost use Rattle.vt_loading.specs.Outcomes.{IsBatchFor};
 ghost use Rattle.vt_loading.specs.Passes.{MapsRoot, IsJobFor};
 ghost use Rattle.vt_loading.specs.RoundStocks.{AreEmptied};
-ghost use Rattle.vt_pass.specs.PassKits.{IsWorkerPool, IsIdlePool, IsPreparedFor, IsSamePool, PoolRan, pool_rows, pool_setup, pool_state};
+ghost use Rattle.vt_pass.specs.PassKits.{IsWholeKit, IsIdleKit, IsPreparedFor, IsSameKit, KitRan, kit_rows, kit_setup, kit_state};
 
 use crate::parts::kit_parts;
 use crate::pass::begin_and_draw;
@@ -22,7 +22,7 @@ use vt_grace::Words;
 use vt_load::{Queues, Stores};
 use vt_loading::{Batch, Crew, LoaderPool, PassReport};
 use vt_outside::{File, Gate, NoMemory};
-use vt_pass_pool::{
+use vt_pass_machine::{
     Dealt, FeedbackCounts as Counts, Filter, Geometry, Nothing, PassPool, PassStreamer, Path, Shot,
 };
 use vt_streamer::Streamer;
@@ -56,7 +56,7 @@ impl<F: File> PassKit<F> {
         requires crew { IsCrew crew.now }
         requires depth { IsDepth depth }
         requires stores { AreStoresFor F.File geometry.now depth crew.now.loaders stores.elements }
-        ensures pool { IfOk result (IsWorkerPool F.File) }
+        ensures pool { IfOk result (IsWholeKit F.File) }
         ensures shape { IfOk result (λ k. k.streams.shape ≡ geometry.now) }
         ensures depth { IfOk result (λ k. k.streams.depth ≡ depth) }
         ensures width { IfOk result (λ k. k.pool.width ≡ path.now.width) }
@@ -115,14 +115,14 @@ impl<F: File> PassKit<F> {
         streamer: &mut Streamer,
         batch: &Batch,
     ) -> Result<(), NoMemory>
-        requires idle { IsIdlePool F.File _words.now streamer.old self.old }
+        requires idle { IsIdleKit F.File _words.now streamer.old self.old }
         requires lawful { IsBatchFor streamer.old.shape (length streamer.old.owners)
             (newest streamer.old.writer.journal) batch.now.elements }
         requires few { length batch.now.elements ≤ self.old.streams.crew.batch }
         requires early { length streamer.old.writer.journal ≤ last_start }
         ensures prepared { OnOk result (IsPreparedFor F.File _words.now streamer.new self.new batch.now.elements) }
         ensures streamer { streamer.new ≡ record streamer.old { spare = streamer.new.spare } }
-        ensures same { IsSamePool F.File self.old self.new }
+        ensures same { IsSameKit F.File self.old self.new }
     {
         let entries = batch.len() as u64;
         streamer.reserve(2 * entries)?;
@@ -137,8 +137,8 @@ impl<F: File> PassKit<F> {
 
     /// The samples of the last pass's picture: its rows from the top. It asks for their memory once.
     pub fn picture(&self, alloc: Global) -> Result<Vec<u8>, NoMemory>
-        requires { IsWorkerPool F.File self.now }
-        ensures { IfOk result (λ picture. picture.items ≡ concat (pool_rows self.now)) }
+        requires { IsWholeKit F.File self.now }
+        ensures { IfOk result (λ picture. picture.items ≡ concat (kit_rows self.now)) }
     {
         let mut picture = Vec::new(alloc);
         self.pool.picture_into(&mut picture)?;
@@ -162,11 +162,11 @@ pub fn run_pass_by<Rt: Threads + Wait + Sync, F: File + Send, P: Filter + Sync, 
     gate: &G,
 ) -> PassReport
     requires prepared { IsPreparedFor F.File words.now streamer.old pool.old batch.now.elements }
-    requires root { MapsRoot (pool_state F.File words.now streamer.old.writer.journal pool.old) }
-    requires job { IsJobFor (pool_setup F.File words.now pool.old) (job_of shot.now batch.now.elements) }
-    ensures ran { PoolRan F.File P.Filter words.now (job_of shot.now batch.now.elements) result streamer.old pool.old
+    requires root { MapsRoot (kit_state F.File words.now streamer.old.writer.journal pool.old) }
+    requires job { IsJobFor (kit_setup F.File words.now pool.old) (job_of shot.now batch.now.elements) }
+    ensures ran { KitRan F.File P.Filter words.now (job_of shot.now batch.now.elements) result streamer.old pool.old
         streamer.new pool.new }
-    ensures idle { IsIdlePool F.File words.now streamer.new pool.new }
+    ensures idle { IsIdleKit F.File words.now streamer.new pool.new }
     ensures emptied { AreEmptied pool.new.queues pool.new.streams.round.asks pool.new.own.answers }
 {
     mem::swap(streamer, &mut pool.own.writer);
@@ -197,11 +197,11 @@ pub fn run_pass<Rt: Threads + Wait + Sync, F: File + Send, G: Gate + Sync>(
     gate: &G,
 ) -> PassReport
     requires prepared { IsPreparedFor F.File words.now streamer.old pool.old batch.now.elements }
-    requires root { MapsRoot (pool_state F.File words.now streamer.old.writer.journal pool.old) }
-    requires job { IsJobFor (pool_setup F.File words.now pool.old) (job_of shot.now batch.now.elements) }
-    ensures ran { PoolRan F.File ⟦<Nearest as Filter>⟧ words.now (job_of shot.now batch.now.elements) result streamer.old pool.old
+    requires root { MapsRoot (kit_state F.File words.now streamer.old.writer.journal pool.old) }
+    requires job { IsJobFor (kit_setup F.File words.now pool.old) (job_of shot.now batch.now.elements) }
+    ensures ran { KitRan F.File ⟦<Nearest as Filter>⟧ words.now (job_of shot.now batch.now.elements) result streamer.old pool.old
         streamer.new pool.new }
-    ensures idle { IsIdlePool F.File words.now streamer.new pool.new }
+    ensures idle { IsIdleKit F.File words.now streamer.new pool.new }
     ensures emptied { AreEmptied pool.new.queues pool.new.streams.round.asks pool.new.own.answers }
 {
     run_pass_by::<Rt, F, Nearest, G>(rt, pool, words, streamer, shot, batch, gate)

@@ -7,3 +7,4 @@ pub mod Idle
 mod Placing
 pub mod Preparing
 pub mod Finishing
+pub mod HeldRows

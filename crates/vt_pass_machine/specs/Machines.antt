@@ -214,3 +214,9 @@ Finishes g table schedule filter job result n loaders samplers t p = (b : Begun 
     → PassEnds g table schedule filter job result (state_by g (table.frame_count b.streamer.writer) (table.journal b.streamer.writer)
     (stream_before n.streams b.stream) n.pool) p
     × IfOk result (λ report. held_from table filter b.streamer.writer b.samplers p.streamer p.pool job report.rows.elements)
+
+-- there are both streamers, and this holds of their writers
+abbrev pub OfWriters : {T H R W : Type 0} → (W → W → Type 0) → Option (PassStreamer T H R W) → Option (PassStreamer T H R W) → Type 0
+OfWriters P None o = ⊥
+OfWriters P (Some t) None = ⊥
+OfWriters P (Some t) (Some u) = P t.writer u.writer

@@ -8,4 +8,7 @@ pub use machine::Machine;
 pub use passes::{begin_pass, end_pass};
 pub use vt_loading::PassMachine;
 pub use vt_outside::File;
-pub use vt_pass_pool::{Dealt, Filter, Schedule, Shared};
+pub use vt_pass_pool::{
+    Dealt, FeedbackCounts, Filter, Geometry, Nothing, PageTable, PassPool, PassSampler, PassStreamer,
+    Path, Schedule, Shared, Shot,
+};

@@ -1,1 +1,1 @@
-pub mod NewRows
+mod NewRows

@@ -75,7 +75,7 @@ abbrev pub HaveWays : {T S H R W B O M : Type 0} → ScheduleMeanings S B O M �
 HaveWays schedule rows height line samplers = (k : ℕ) (a : _) → slice_get samplers k ≡ Some a → HasWay schedule rows height line a
 
 -- the reader of a sampler was opened for a pass that starts at a version
-pub record IsOpened {T S H R W B O M : Type 0} (table : TableMeanings T H R W) (shared : H) (s : Shape) (start number : ℕ)
+pub record IsOpenedSampler {T S H R W B O M : Type 0} (table : TableMeanings T H R W) (shared : H) (s : Shape) (start number : ℕ)
     (a b : PassSampler T S H R W B O M) : Type 0 where
   pub rest : b ≡ record a { reader = b.reader }
   pub opened : table.is_open shared s number b.reader
@@ -85,7 +85,7 @@ pub record AreOpened {T S H R W B O M : Type 0} (table : TableMeanings T H R W) 
     (before after : List (PassSampler T S H R W B O M)) : Type 0 where
   pub count : length after ≡ length before
   pub each : (k : ℕ) (a b : PassSampler T S H R W B O M) → slice_get before k ≡ Some a → slice_get after k ≡ Some b
-      → IsOpened table shared s start k a b
+      → IsOpenedSampler table shared s start k a b
 
 -- a sampler is ready for a pass that starts at a version: its reader was opened, and it has a way to rows and room for them
 pub record IsReadySampler {T S H R W B O M : Type 0} (table : TableMeanings T H R W) (schedule : ScheduleMeanings S B O M) (shared : H) (rows : B) (s : Shape)

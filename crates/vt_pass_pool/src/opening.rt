@@ -4,7 +4,7 @@ ghost use Rattle.std.specs.Prelude.{◌≡◌, ℕ, Some, length, slice_get, IsS
 ghost use Rattle.vt_journal.specs.Pages.{root_of};
 ghost use Rattle.vt_journal.specs.Changes.{newest};
 ghost use Rattle.vt_pass_rows.specs.declared.sampler.PassSampler.{PassSampler as Sampler};
-ghost use Rattle.vt_pass_pool.specs.Pools.{IsOpened, AreOpened, AreAtHome};
+ghost use Rattle.vt_pass_pool.specs.Pools.{IsOpenedSampler, AreOpened, AreAtHome};
 ghost use Rattle.vt_pass_pool.specs.Stills.{IsStill};
 
 use vt_pass_rows::{PageTable, PassSampler, Schedule};
@@ -21,7 +21,7 @@ fn open_sampler<T: PageTable, S: Schedule>(
     ensures still { IsStill T.PageTable table.now writer.old writer.new }
     ensures room { (n : ℕ) → T.has_room writer.old n → T.has_room writer.new n }
     ensures others { (k : ℕ) (r : T.Reader) → (k ≡ sampler.old.number → ⊥) → T.is_home writer.old k r → T.is_home writer.new k r }
-    ensures opened { IsOpened T.PageTable table.now (T.shape writer.old) (length (T.journal writer.old)) sampler.old.number
+    ensures opened { IsOpenedSampler T.PageTable table.now (T.shape writer.old) (length (T.journal writer.old)) sampler.old.number
         sampler.old sampler.new }
 {
     T::open(table, writer, sampler.number, &mut sampler.reader);

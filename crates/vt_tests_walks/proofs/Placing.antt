@@ -18,13 +18,13 @@ use Rattle.vt_pass.specs.Stored.{AreStored}
 use Rattle.vt_pass.proofs.Growing.{stored_grow}
 use Rattle.vt_tests_walks.specs.Placed.{HasPlaced}
 use Rattle.vt_pass.specs.declared.pass_kit.PassKit.{PassKit}
-use Rattle.vt_pass.specs.PassKits.{pool_state, IsIdlePool, AreAllIn}
+use Rattle.vt_pass.specs.PassKits.{kit_state, IsIdleKit, AreAllIn}
 
 module _ {F : Type 0} (g : FileMeanings F) where
   -- a pool in which a page was placed is idle
   pub idle_placed : (words : WordsValue) (v w : StreamerView) (k : PassKit F) (page frame : ℕ) (tile : List ℕ)
-      → IsIdlePool g words v k → IsStreamerOf words w → MayPlace (pool_state g words v.writer.journal k) page frame tile
-      → HasPlaced v w page frame tile → IsIdlePool g words w k
+      → IsIdleKit g words v k → IsStreamerOf words w → MayPlace (kit_state g words v.writer.journal k) page frame tile
+      → HasPlaced v w page frame tile → IsIdleKit g words w k
   idle_placed words v w k page frame tile idle of may placed = record {
     fit = record {
       of = of;

@@ -14,11 +14,11 @@ use Rattle.vt_page_table.specs.Format.{tile_length}
 use Rattle.vt_page_table.specs.Outcomes.{group_of}
 use Rattle.vt_page_table.specs.Fills.{AreTexelWords, FillsOne, IsStoredPage, AreStoredPages}
 use Rattle.vt_table.specs.Views.{tile_word}
-use Rattle.vt_word_samplers.specs.Fills.{words_in}
+use Rattle.vt_word_notes.specs.Fills.{words_in}
 use Rattle.vt_grace.specs.declared.views.WriterView.{WriterView}
 use Rattle.vt_table.proofs.TileWords.{word_is}
-use Rattle.vt_word_samplers.specs.Made.{HasMade, victim_contents, group_contents}
-use Rattle.vt_word_samplers.specs.Stored.{AreStored}
+use Rattle.vt_word_notes.specs.Made.{HasMade, victim_contents, group_contents}
+use Rattle.vt_word_notes.specs.Stored.{AreStored}
 use Rattle.vt_word_table.specs.WordWriters.{IsMappedWith, HasTakenMore}
 
 -- lists with the same numbers

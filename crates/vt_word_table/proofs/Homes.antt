@@ -21,9 +21,9 @@ use Rattle.vt_sampler.specs.Tokens.{IsPassOf}
 use Rattle.vt_sampler.specs.LookupNotes.{FitsShape, IsNotedIn, HasHeldMore}
 use Rattle.vt_grace.specs.WriterViews.{is_out, first_writer, after_look, version_of}
 use Rattle.vt_grace.specs.Giving.{after_giving, after_return, new_pass}
-use Rattle.vt_word_samplers.specs.Views.{StreamerView, IsStreamerOf}
+use Rattle.vt_word_notes.specs.Views.{StreamerView, IsStreamerOf}
 use Rattle.vt_grace.specs.Sound.{IsSound, IsSoundReturn}
-use Rattle.vt_word_samplers.specs.Noted.{IsAmong, IsNotedBy}
+use Rattle.vt_word_notes.specs.Noted.{IsAmong, IsNotedBy}
 use Rattle.vt_word_table.specs.declared.table.WordReader.{WordReader}
 use Rattle.vt_word_table.specs.WordReaders.{IsAtHome, HasOwnPass, HeldAt}
 use Rattle.vt_word_table.specs.WordWriters.{HasTakenMore, CameHome, WasBack}

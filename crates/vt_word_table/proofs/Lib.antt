@@ -1,4 +1,4 @@
-pub use Rattle.vt_word_samplers.proofs.Growing
+pub use Rattle.vt_word_notes.proofs.Growing
 mod Making
 pub mod Filling
 pub mod Homes

@@ -8,13 +8,13 @@ use Rattle.vt_journal.specs.JournalText.{changes_of}
 use Rattle.vt_journal.proofs.EventLines.{changes_of-append}
 use Rattle.vt_grace.specs.declared.views.WriterView.{WriterView}
 use Rattle.vt_grace.specs.Places.{content_of}
-use Rattle.vt_word_samplers.specs.Banks.{HasPublished}
-use Rattle.vt_word_samplers.specs.Looks.{HasOnlyLooked}
-use Rattle.vt_word_samplers.specs.Views.{StreamerView, streamer_table, IsStreamerOf}
+use Rattle.vt_word_notes.specs.Banks.{HasPublished}
+use Rattle.vt_word_notes.specs.Looks.{HasOnlyLooked}
+use Rattle.vt_word_notes.specs.Views.{StreamerView, streamer_table, IsStreamerOf}
 use Rattle.vt_grace.specs.declared.sizes.Sizes.{Sizes}
 use Rattle.vt_grace.specs.Values.{WordsValue}
-use Rattle.vt_requests.specs.Streams.{Publishes}
-use Rattle.vt_word_samplers.specs.Made.{HasMade, after_looks}
+use Rattle.vt_word_notes.specs.Streams.{Publishes}
+use Rattle.vt_word_notes.specs.Made.{HasMade, after_looks}
 
 pub made_none : (v : WriterView) → HasMade [] [] v v
 made_none v = record { journal = sym (append-nil v.journal); contents = sym (append-nil v.contents); rest = refl }

@@ -6,10 +6,10 @@ ghost use Rattle.vt_journal.specs.declared.changes.Change.TheVariants.{Map};
 ghost use Rattle.vt_journal.specs.declared.changes.Event.TheVariants.{Changed};
 ghost use Rattle.vt_journal.specs.Changes.{newest, IsFree};
 ghost use Rattle.vt_table.specs.Views.{IsTile};
-ghost use Rattle.vt_word_samplers.specs.Fills.{words_in};
-ghost use Rattle.vt_word_samplers.specs.Views.{IsStreamerOf};
+ghost use Rattle.vt_word_notes.specs.Fills.{words_in};
+ghost use Rattle.vt_word_notes.specs.Views.{IsStreamerOf};
 ghost use Rattle.vt_page_table.specs.Outcomes.{IsEntryFor, group_of, victim_events};
-ghost use Rattle.vt_word_samplers.specs.Made.{HasMade, victim_contents, group_contents};
+ghost use Rattle.vt_word_notes.specs.Made.{HasMade, victim_contents, group_contents};
 
 use crate::waits::{free_frame, publish};
 use std::sync::Wait;
@@ -17,7 +17,7 @@ use vt_journal::Change;
 use vt_outside::{Gate, Point};
 use vt_page_table::Planned;
 use vt_sampler::Words;
-use vt_word_samplers::Streamer;
+use vt_word_notes::Streamer;
 
 // Unmaps an entry's victim, if it has one.
 fn unmap_victim<Rt: Wait, G: Gate>(

@@ -6,14 +6,14 @@ ghost use Rattle.vt_journal.specs.Changes.{newest, IsFree, IsLegalNext};
 ghost use Rattle.vt_table.specs.Views.{filled_for, filled_after, IsReady, IsTableChange};
 ghost use Rattle.vt_grace.specs.Places.{content_of};
 ghost use Rattle.vt_grace.specs.Banks.{MayFill};
-ghost use Rattle.vt_word_samplers.specs.Views.{streamer_table, IsStreamerOf};
-ghost use Rattle.vt_word_samplers.specs.Made.{HasMade, after_looks};
+ghost use Rattle.vt_word_notes.specs.Views.{streamer_table, IsStreamerOf};
+ghost use Rattle.vt_word_notes.specs.Made.{HasMade, after_looks};
 
 use crate::pause::pause;
 use std::sync::Wait;
 use vt_journal::Change;
 use vt_sampler::Words;
-use vt_word_samplers::Streamer;
+use vt_word_notes::Streamer;
 
 /// Waits until a frame that no page is mapped to may be filled.
 pub(crate) fn free_frame<Rt: Wait>(rt: &Rt, words: &Words, streamer: &mut Streamer, frame: u32)

@@ -7,9 +7,9 @@ use Rattle.vt_loading.specs.PlanTypes.batches.Planned.{Planned}
 use Rattle.vt_loading.specs.All.{AllReady}
 use Rattle.vt_loading.specs.Jobs.{Job, job_of}
 use Rattle.vt_loading.proofs.Lent.{same_number, all_did}
-use Rattle.vt_pass_pool.specs.Samplers.{row_length}
-use Rattle.vt_pass_pool.specs.PassSamplers.{MayDraw, HasDrawn}
-use Rattle.vt_pass_pool.specs.PassTasks.{MayStream, HasStreamed}
+use Rattle.vt_pass_machine.specs.Samplers.{row_length}
+use Rattle.vt_pass_machine.specs.PassSamplers.{MayDraw, HasDrawn}
+use Rattle.vt_pass_machine.specs.PassTasks.{MayStream, HasStreamed}
 use Rattle.vt_word_table.specs.Values.{WordsValue}
 use Rattle.vt_word_table.specs.contracts.table.WordTablePageTable.TheImpl as word
 use Rattle.vt_schedules.specs.contracts.dealt.DealtSchedule.TheImpl as dealt

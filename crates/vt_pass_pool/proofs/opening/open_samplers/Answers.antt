@@ -6,7 +6,7 @@ use Rattle.vt_journal.specs.Shape.{Shape}
 use Rattle.vt_journal.specs.Pages.{root_of}
 use Rattle.vt_journal.specs.declared.changes.Change.{Change}
 use Rattle.vt_journal.specs.Changes.{newest}
-use Rattle.vt_pass_pool.specs.Pools.{IsOpened}
+use Rattle.vt_pass_pool.specs.Pools.{IsOpenedSampler}
 use Rattle.vt_pass_pool.proofs.Listed.{each_more, rest_same, set_other}
 use Rattle.vt_pass_pool.proofs.Stills.{still_none, still_more}
 use Rattle.vt_pass_pool.proofs.opening.open_samplers.Goals as goal
@@ -61,8 +61,8 @@ loop-i-preserved g c =
           let other : k ≡ i → ⊥ = λ eq. omega (arith, low, eq) in
           e.others k v.reader (λ eq. other (eq ∙ number)) (l.home k v (omega (arith, low)) (sym (set_other ys i k b other) ∙ is));
       opened = each_more xs ys i a b inside
-          (λ k u v. IsOpened table c.args.table.now (table.shape c.args.writer.now) (length (table.journal c.args.writer.now)) k u v) was
-          (subst (λ (z : Shape × ℕ × ℕ). IsOpened table c.args.table.now z.0 z.1 z.2 a b)
+          (λ k u v. IsOpenedSampler table c.args.table.now (table.shape c.args.writer.now) (length (table.journal c.args.writer.now)) k u v) was
+          (subst (λ (z : Shape × ℕ × ℕ). IsOpenedSampler table c.args.table.now z.0 z.1 z.2 a b)
           (λ j. (l.still.shape j, length (l.still.journal j), number j)) e.opened) l.opened;
     }
 

@@ -2,9 +2,9 @@ use Rattle.std.proofs.Common.{◌≡◌, ◌+◌, ◌≤◌, ℕ, [], ◌∷◌,
 use Rattle.vt_journal.specs.Shape.{Shape}
 use Rattle.vt_journal.specs.declared.changes.Change.TheVariants.{Map}
 use Rattle.vt_journal.specs.declared.changes.Event.TheVariants.{Changed}
-use Rattle.vt_word_samplers.specs.Fills.{words_in}
-use Rattle.vt_word_samplers.specs.Views.{StreamerView}
-use Rattle.vt_word_samplers.specs.Made.{HasMade}
+use Rattle.vt_word_notes.specs.Fills.{words_in}
+use Rattle.vt_word_notes.specs.Views.{StreamerView}
+use Rattle.vt_word_notes.specs.Made.{HasMade}
 use Rattle.vt_word_table.proofs.Making.{made_looked, made_filled, made_both}
 use Rattle.vt_word_table.proofs.entries.map_page.Goals as goal
 

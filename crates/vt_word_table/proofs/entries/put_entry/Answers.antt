@@ -4,11 +4,11 @@ use Rattle.vt_journal.specs.Pages.{pages_of}
 use Rattle.vt_journal.specs.declared.changes.Change.TheVariants.{Map}
 use Rattle.vt_journal.specs.declared.changes.Event.TheVariants.{Changed}
 use Rattle.vt_table.specs.Views.{IsTile}
-use Rattle.vt_word_samplers.specs.Fills.{words_in}
-use Rattle.vt_word_samplers.specs.Views.{streamer_table}
+use Rattle.vt_word_notes.specs.Fills.{words_in}
+use Rattle.vt_word_notes.specs.Views.{streamer_table}
 use Rattle.vt_page_table.specs.Outcomes.{victim_events}
-use Rattle.vt_requests.proofs.Entries.{still_unmapped, then_free}
-use Rattle.vt_word_samplers.specs.Made.{HasMade}
+use Rattle.vt_word_notes.proofs.Entries.{still_unmapped, then_free}
+use Rattle.vt_word_notes.specs.Made.{HasMade}
 use Rattle.vt_word_table.proofs.Making.{made_both, publishes, as_many_frames}
 use Rattle.vt_word_table.proofs.entries.put_entry.Goals as goal
 

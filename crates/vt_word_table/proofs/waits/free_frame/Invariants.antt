@@ -1,6 +1,6 @@
 use Rattle.std.proofs.Common.{◌≡◌}
-use Rattle.vt_word_samplers.specs.Views.{IsStreamerOf}
-use Rattle.vt_word_samplers.specs.Made.{after_looks}
+use Rattle.vt_word_notes.specs.Views.{IsStreamerOf}
+use Rattle.vt_word_notes.specs.Made.{after_looks}
 use Rattle.vt_word_table.proofs.waits.free_frame.Given as goal
 
 abbrev pub invariant-loop : goal.invariant-loop

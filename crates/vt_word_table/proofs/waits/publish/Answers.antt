@@ -2,7 +2,7 @@ use Rattle.std.proofs.Common.{◌≡◌, ◌+◌, ◌≤◌, ℕ, [], ap, ◌∙
 use Rattle.vt_journal.specs.Changes.{newest, IsLegalNext}
 use Rattle.vt_table.specs.Views.{filled_for, filled_after, IsReady, IsTableChange}
 use Rattle.vt_grace.specs.Places.{content_of}
-use Rattle.vt_word_samplers.specs.Views.{StreamerView, streamer_table}
+use Rattle.vt_word_notes.specs.Views.{StreamerView, streamer_table}
 use Rattle.vt_word_table.proofs.Making.{made_looked, made_published, made_both, looked_more}
 use Rattle.vt_word_table.proofs.waits.publish.Goals as goal
 

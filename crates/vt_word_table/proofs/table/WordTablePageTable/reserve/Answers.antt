@@ -1,5 +1,5 @@
 use Rattle.std.proofs.Common.{sym, subst}
-use Rattle.vt_word_samplers.specs.Views.{StreamerView}
+use Rattle.vt_word_notes.specs.Views.{StreamerView}
 use Rattle.vt_word_table.specs.WordWriters.{HasTakenMore}
 use Rattle.vt_word_table.specs.WordLaws.{taken_none}
 use Rattle.vt_word_table.proofs.Homes.{streamer_still}
