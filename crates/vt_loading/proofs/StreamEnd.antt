@@ -19,7 +19,7 @@ use Rattle.vt_queue.specs.Queues.{queue_view_of}
 use Rattle.vt_queue.specs.Steps.{IsAtStep}
 use Rattle.vt_load.specs.Loaders.{LoaderView}
 use Rattle.vt_load.specs.declared.queued.Queues.{Queues}
-use Rattle.vt_load.specs.QueuedLoaders.{QueuedView, asks_of, answers_of, stores_of}
+use Rattle.vt_load.specs.QueuedLoaders.{QueuedView, AreOf, asks_of, answers_of, stores_of}
 use Rattle.vt_load.specs.Results.{IsGood}
 use Rattle.vt_load.proofs.Answering.{bytes_kept}
 use Rattle.vt_requests.specs.Outcomes.{IsOutcome}
@@ -28,8 +28,8 @@ use Rattle.vt_requests.specs.Machines.{files_of, known_bytes, AreStoresFor}
 use Rattle.vt_requests.specs.BatchRounds.{result_events}
 use Rattle.vt_requests.specs.Sizes.{AreSized}
 use Rattle.vt_requests.specs.declared.report.StreamReport.{StreamReport}
-use Rattle.vt_loading.specs.RoundStocks.{RoundStockView}
-use Rattle.vt_loading.proofs.Ending.{all_entries, all_good, all_sizes, outcome, read}
+use Rattle.vt_loading.specs.RoundStocks.{RoundStockView, AreEmptied}
+use Rattle.vt_loading.proofs.Ending.{all_entries, all_good, all_sizes, outcome, read, asks_whole, answers_whole, no_asks, no_answers}
 use Rattle.vt_loading.specs.LoaderPools.{LoaderPoolView, StreamBegun, MayEndStream, HasEndedStream}
 
 -- stores that all tell the same, tell it together
@@ -133,3 +133,22 @@ module _ {F : Type 0} (g : FileMeanings F) (q : Queues) (k : LoaderPoolView F) (
           good = good;
           outcome = outcome_is;
         })
+
+    -- nothing is left in the queues
+    pub emptied : (asks : QueuePass Request) (results : QueuePass Loaded) → AreOf q asks results → queue_view_of asks ≡ asks_back
+        → queue_view_of results ≡ answers_end → AreEmptied q asks results
+    emptied asks results of same_asks same_answers = record {
+      passes = of;
+      all_asks = ap (λ (v : PassView Request). v.shares) same_asks
+          ∙ asks_whole g q k.shape batch (queue_view_of k.round.asks) asks_back (queue_view_of b.answers) (queue_view_of answers) answers_end c
+          report.taken.elements report.results.elements unread.0 over.0 joined unread.1 h.took h.all given over.1 b.round h.ended;
+      all_answers = ap (λ (v : PassView Loaded). v.shares) same_answers
+          ∙ answers_whole g q k.shape batch (queue_view_of k.round.asks) asks_back (queue_view_of b.answers) (queue_view_of answers) answers_end c
+          report.taken.elements report.results.elements unread.0 over.0 joined unread.1 h.took h.all given over.1 b.round h.ended;
+      no_asks = subst (λ (v : PassView Request). IsAtStep v []) (sym same_asks)
+          (no_asks g q k.shape batch (queue_view_of k.round.asks) asks_back (queue_view_of b.answers) (queue_view_of answers) answers_end c
+          report.taken.elements report.results.elements unread.0 over.0 joined unread.1 h.took h.all given over.1 b.round h.ended);
+      no_answers = subst (λ (v : PassView Loaded). IsAtStep v []) (sym same_answers)
+          (no_answers g q k.shape batch (queue_view_of k.round.asks) asks_back (queue_view_of b.answers) (queue_view_of answers) answers_end c
+          report.taken.elements report.results.elements unread.0 over.0 joined unread.1 h.took h.all given over.1 b.round h.ended);
+    }

@@ -12,7 +12,7 @@ ghost use Rattle.vt_requests.specs.Crews.{IsCrew};
 ghost use Rattle.vt_requests.specs.Machines.{AreStoresFor};
 ghost use Rattle.vt_requests.specs.Sizes.{AreSized};
 ghost use Rattle.vt_requests.specs.declared.report.StreamReport.{StreamReport as Told};
-ghost use Rattle.vt_loading.specs.RoundStocks.{IsSetUp};
+ghost use Rattle.vt_loading.specs.RoundStocks.{IsSetUp, AreEmptied};
 ghost use Rattle.vt_loading.specs.LoaderPools.{LoaderPoolView, IsLoaderPool, IsPreparedStream, IsAskedStream, IsSameStream, AreLoadersOut, StreamBegun, MayEndStream, HasEndedStream};
 
 use crate::room::reserve_reads;
@@ -188,6 +188,7 @@ impl<F: File> LoaderPool<F> {
         ensures ended { (batch : List Entry) (b : StreamBegun F)
             → MayEndStream F.File queues.now self.old batch loaders.elements answers.old report.old b
             → HasEndedStream F.File self.old self.new batch report.old b }
+        ensures emptied { AreEmptied queues.now self.new.round.asks answers.new }
         ensures events { result.0.elements ≡ report.old.events.elements }
         ensures losses { result.1.elements ≡ report.old.losses.elements }
     {

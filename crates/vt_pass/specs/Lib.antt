@@ -1,5 +1,5 @@
-pub use Rattle.vt_word_workers.specs.DealtRows
-pub use Rattle.vt_word_workers.specs.Samplers
-pub use Rattle.vt_word_workers.specs.Stored
-pub use Rattle.vt_word_workers.specs.WorkerPools
+pub use Rattle.vt_word_table.specs.Stored
+pub mod WordPools
+pub mod Runs
+pub mod NewRows
 pub mod PassKits

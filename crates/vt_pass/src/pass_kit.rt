@@ -2,49 +2,41 @@
 
 ghost use Rattle.std.specs.Prelude.{◌≡◌, ◌≤◌, OnOk, length, IfOk, IfErr};
 ghost use Rattle.std.specs.List.{concat};
-ghost use Rattle.vt_tiles.specs.Depths.{IsDepth};
-ghost use Rattle.vt_journal.specs.Changes.{newest};
-ghost use Rattle.vt_word_workers.specs.Jobs.{job_of};
-ghost use Rattle.vt_word_workers.specs.Crews.{IsCrew, last_start};
-ghost use Rattle.vt_word_workers.specs.Machines.{AreStoresFor};
-ghost use Rattle.vt_word_workers.specs.Outcomes.{IsBatchFor};
-ghost use Rattle.vt_word_workers.specs.Passes.{MapsRoot, IsJobFor};
-ghost use Rattle.vt_pass.specs.PassKits.{IsPreparedFor};
-ghost use Rattle.vt_word_workers.specs.WorkerPools.{pool_setup, pool_state, pool_rows, IsWorkerPool, IsIdlePool, IsSamePool};
-ghost use Rattle.vt_word_workers.specs.PoolPasses.{PoolRan};
-ghost use Rattle.vt_word_workers.specs.RoundStocks.{AreEmptied};
+ghost use Rattle.vt_pass_machine.specs.Depths.{IsDepth};
+ghost use Rattle.vt_pass_machine.specs.Changes.{newest};
+ghost use Rattle.vt_loading.specs.Crews.{IsCrew, last_start};
+ghost use Rattle.vt_loading.specs.Jobs.{job_of};
+ghost use Rattle.vt_loading.specs.Machines.{AreStoresFor};
+ghost use Rattle.vt_loading.specs.Outcomes.{IsBatchFor};
+ghost use Rattle.vt_loading.specs.Passes.{MapsRoot, IsJobFor};
+ghost use Rattle.vt_loading.specs.RoundStocks.{AreEmptied};
+ghost use Rattle.vt_pass.specs.PassKits.{IsWholeKit, IsIdleKit, IsPreparedFor, IsSameKit, KitRan, kit_rows, kit_setup, kit_state};
 
-use crate::pass::ask_and_run;
+use crate::parts::kit_parts;
+use crate::pass::begin_and_draw;
 use std::alloc::Global;
-use std::marker::Model;
 use std::mem;
 use std::sync::Wait;
 use std::thread::Threads;
-use vt_camera::Path;
 use vt_grace::Words;
+use vt_load::{Queues, Stores};
+use vt_loading::{Batch, Crew, LoaderPool, PassReport};
 use vt_outside::{File, Gate, NoMemory};
-use vt_pages::Geometry;
-use vt_tiles::Stores;
-use vt_word_workers::{
-    Batch, Counts, Crew, Filter, Nearest, PassReport, Queues, Shot, Streamer, WordStreamer,
-    WorkerPool, spare_parts,
+use vt_pass_machine::{
+    Dealt, FeedbackCounts as Counts, Filter, Geometry, Nothing, PassPool, PassStreamer, Path, Shot,
 };
+use vt_streamer::Streamer;
+use vt_word_table::{Nearest, WordTable};
 
 /// What a pass over shared words uses, where the caller holds the words and their streamer: the samplers, the
-/// loaders' stores, the queues, and room for what the pass tells. Contracts see the queues and the rest.
+/// loaders' stores, the queues, and room for what the pass tells. Contracts see all of these.
 pub struct PassKit<F: File> {
     queues: Queues,
-    // The streamer is in it while a pass is run, and else a spare one of one frame.
-    own: WordStreamer,
-    pool: WorkerPool<F>,
-}
-
-impl<F: File> Model for PassKit<F> {
-    ghost use Rattle.vt_pass.specs.PassKits.{PassKitView};
-
-    ghost Value = { PassKitView F };
-
-    ghost view = { λ k. record { queues = k.queues; answers = k.own.answers; report = k.own.report; pool = k.pool } };
+    // The caller's writer is in it while a pass is run, and else a spare one of one frame.
+    own: PassStreamer<WordTable>,
+    rows: Nothing,
+    streams: LoaderPool<F>,
+    pool: PassPool<WordTable, Dealt>,
 }
 
 impl<F: File> PassKit<F> {
@@ -64,22 +56,24 @@ impl<F: File> PassKit<F> {
         requires crew { IsCrew crew.now }
         requires depth { IsDepth depth }
         requires stores { AreStoresFor F.File geometry.now depth crew.now.loaders stores.elements }
-        ensures pool { IfOk result (λ k. IsWorkerPool F.File k.pool) }
-        ensures shape { IfOk result (λ k. k.pool.shape ≡ geometry.now) }
-        ensures depth { IfOk result (λ k. k.pool.depth ≡ depth) }
+        ensures pool { IfOk result (IsWholeKit F.File) }
+        ensures shape { IfOk result (λ k. k.streams.shape ≡ geometry.now) }
+        ensures depth { IfOk result (λ k. k.streams.depth ≡ depth) }
         ensures width { IfOk result (λ k. k.pool.width ≡ path.now.width) }
         ensures height { IfOk result (λ k. k.pool.height ≡ path.now.height) }
-        ensures crew { IfOk result (λ k. k.pool.crew ≡ crew.now) }
-        ensures stores { IfOk result (λ k. k.pool.stores ≡ stores.elements) }
+        ensures crew { IfOk result (λ k. k.streams.crew ≡ crew.now) }
+        ensures stores { IfOk result (λ k. k.streams.stores ≡ stores.elements) }
         ensures refused { IfErr result (λ e. e.0.elements ≡ stores.elements) }
     {
-        let (queues, own, asks) = match spare_parts(alloc, geometry) {
-            Ok(parts) => parts,
-            Err(refusal) => return Err((stores, refusal)),
-        };
-        match WorkerPool::new(alloc, geometry, path, crew, depth, asks, stores) {
-            Ok(pool) => Ok(PassKit { queues, own, pool }),
-            Err(refused) => Err(refused),
+        match kit_parts(alloc, geometry, path, crew, depth) {
+            Ok((queues, own, asks, rows, pool)) => Ok(PassKit {
+                queues,
+                own,
+                rows,
+                streams: LoaderPool::new(alloc, geometry, crew, depth, asks, stores),
+                pool,
+            }),
+            Err(refusal) => Err((stores, refusal)),
         }
     }
 
@@ -92,14 +86,24 @@ impl<F: File> PassKit<F> {
 
     /// The loaders' stores, in place of the pool.
     pub fn end(self) -> Stores<F>
-        ensures { result.elements ≡ self.pool.stores }
+        ensures { result.elements ≡ self.streams.stores }
     {
         let PassKit {
             queues: _,
-            own: _,
-            pool,
+            own,
+            rows: _,
+            streams,
+            pool: _,
         } = self;
-        pool.end()
+        let PassStreamer {
+            writer: _,
+            geometry: _,
+            depth: _,
+            answers: _,
+            report: _,
+            refused: _,
+        } = own;
+        streams.end()
     }
 
     /// Makes all room for one pass that streams a batch into words. No sampler has a pass of them, the journal has at most
@@ -111,28 +115,30 @@ impl<F: File> PassKit<F> {
         streamer: &mut Streamer,
         batch: &Batch,
     ) -> Result<(), NoMemory>
-        requires idle { IsIdlePool F.File _words.now streamer.old self.old.pool }
+        requires idle { IsIdleKit F.File _words.now streamer.old self.old }
         requires lawful { IsBatchFor streamer.old.shape (length streamer.old.owners)
             (newest streamer.old.writer.journal) batch.now.elements }
-        requires few { length batch.now.elements ≤ self.old.pool.crew.batch }
+        requires few { length batch.now.elements ≤ self.old.streams.crew.batch }
         requires early { length streamer.old.writer.journal ≤ last_start }
         ensures prepared { OnOk result (IsPreparedFor F.File _words.now streamer.new self.new batch.now.elements) }
         ensures streamer { streamer.new ≡ record streamer.old { spare = streamer.new.spare } }
-        ensures same { IsSamePool F.File self.old.pool self.new.pool }
+        ensures same { IsSameKit F.File self.old self.new }
     {
-        self.pool.prepare(
+        let entries = batch.len() as u64;
+        streamer.reserve(2 * entries)?;
+        self.streams.prepare(
             &mut self.queues,
-            streamer,
             &mut self.own.answers,
             &mut self.own.report,
             batch,
-        )
+        )?;
+        self.pool.prepare_alone(&self.rows)
     }
 
     /// The samples of the last pass's picture: its rows from the top. It asks for their memory once.
     pub fn picture(&self, alloc: Global) -> Result<Vec<u8>, NoMemory>
-        requires { IsWorkerPool F.File self.now.pool }
-        ensures { IfOk result (λ picture. picture.items ≡ concat (pool_rows self.now.pool)) }
+        requires { IsWholeKit F.File self.now }
+        ensures { IfOk result (λ picture. picture.items ≡ concat (kit_rows self.now)) }
     {
         let mut picture = Vec::new(alloc);
         self.pool.picture_into(&mut picture)?;
@@ -156,25 +162,27 @@ pub fn run_pass_by<Rt: Threads + Wait + Sync, F: File + Send, P: Filter + Sync, 
     gate: &G,
 ) -> PassReport
     requires prepared { IsPreparedFor F.File words.now streamer.old pool.old batch.now.elements }
-    requires root { MapsRoot (pool_state F.File words.now streamer.old.writer.journal pool.old.pool) }
-    requires job { IsJobFor (pool_setup F.File words.now pool.old.pool) (job_of shot.now batch.now.elements) }
-    ensures ran { PoolRan F.File P.Filter words.now (job_of shot.now batch.now.elements) result streamer.old pool.old.pool
-        streamer.new pool.new.pool }
-    ensures idle { IsIdlePool F.File words.now streamer.new pool.new.pool }
-    ensures emptied { AreEmptied pool.new.queues pool.new.pool.round.asks pool.new.answers }
+    requires root { MapsRoot (kit_state F.File words.now streamer.old.writer.journal pool.old) }
+    requires job { IsJobFor (kit_setup F.File words.now pool.old) (job_of shot.now batch.now.elements) }
+    ensures ran { KitRan F.File P.Filter words.now (job_of shot.now batch.now.elements) result streamer.old pool.old
+        streamer.new pool.new }
+    ensures idle { IsIdleKit F.File words.now streamer.new pool.new }
+    ensures emptied { AreEmptied pool.new.queues pool.new.streams.round.asks pool.new.own.answers }
 {
-    mem::swap(streamer, &mut pool.own.streamer);
-    let report = ask_and_run::<Rt, F, P, G>(
+    mem::swap(streamer, &mut pool.own.writer);
+    let report = begin_and_draw::<Rt, F, P, G>(
         rt,
-        &mut pool.pool,
         words,
+        &pool.rows,
         &pool.queues,
         &mut pool.own,
+        &mut pool.streams,
+        &mut pool.pool,
         shot,
         batch,
         gate,
     );
-    mem::swap(streamer, &mut pool.own.streamer);
+    mem::swap(streamer, &mut pool.own.writer);
     report
 }
 
@@ -189,12 +197,12 @@ pub fn run_pass<Rt: Threads + Wait + Sync, F: File + Send, G: Gate + Sync>(
     gate: &G,
 ) -> PassReport
     requires prepared { IsPreparedFor F.File words.now streamer.old pool.old batch.now.elements }
-    requires root { MapsRoot (pool_state F.File words.now streamer.old.writer.journal pool.old.pool) }
-    requires job { IsJobFor (pool_setup F.File words.now pool.old.pool) (job_of shot.now batch.now.elements) }
-    ensures ran { PoolRan F.File ⟦<Nearest as Filter>⟧ words.now (job_of shot.now batch.now.elements) result streamer.old pool.old.pool
-        streamer.new pool.new.pool }
-    ensures idle { IsIdlePool F.File words.now streamer.new pool.new.pool }
-    ensures emptied { AreEmptied pool.new.queues pool.new.pool.round.asks pool.new.answers }
+    requires root { MapsRoot (kit_state F.File words.now streamer.old.writer.journal pool.old) }
+    requires job { IsJobFor (kit_setup F.File words.now pool.old) (job_of shot.now batch.now.elements) }
+    ensures ran { KitRan F.File ⟦<Nearest as Filter>⟧ words.now (job_of shot.now batch.now.elements) result streamer.old pool.old
+        streamer.new pool.new }
+    ensures idle { IsIdleKit F.File words.now streamer.new pool.new }
+    ensures emptied { AreEmptied pool.new.queues pool.new.streams.round.asks pool.new.own.answers }
 {
     run_pass_by::<Rt, F, Nearest, G>(rt, pool, words, streamer, shot, batch, gate)
 }

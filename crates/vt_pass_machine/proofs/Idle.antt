@@ -83,11 +83,11 @@ module _ {F T S H R W B O M : Type 0} (g : FileMeanings F) (table : TableMeaning
 
 module _ {F T S P H R W B O M : Type 0} (g : FileMeanings F) (table : TableMeanings T H R W) (m : Machine F T S P H R W B O M) where
   pub machine_placed : (t u : PassStreamer T H R W) (page frame : ℕ) (tile : List ℕ) → m.streamer ≡ Some t
-      → IsIdleBy g table m.shared.table m.streamer m.streams m.pool → MayPlace (state_of g table m) page frame tile
-      → HasPlaced table m.shared.table page tile t u → IsIdle g table m.shared.table u m.streams m.pool
+      → IsIdleBy g table m.shared.parts.table m.streamer m.streams m.pool → MayPlace (state_of g table m) page frame tile
+      → HasPlaced table m.shared.parts.table page tile t u → IsIdle g table m.shared.parts.table u m.streams m.pool
   machine_placed t u page frame tile there idle may placed =
-      idle_placed g table m.shared.table t u m.streams m.pool page frame tile
-      (subst (λ (x : Option (PassStreamer T H R W)). IsIdleBy g table m.shared.table x m.streams m.pool) there idle)
+      idle_placed g table m.shared.parts.table t u m.streams m.pool page frame tile
+      (subst (λ (x : Option (PassStreamer T H R W)). IsIdleBy g table m.shared.parts.table x m.streams m.pool) there idle)
       (subst (λ (x : Option (PassStreamer T H R W)).
       MayPlace (state_by g (frames_by table x) (journal_by table x) m.streams m.pool) page frame tile) there may) placed
 
@@ -116,7 +116,7 @@ module _ {F T S P H R W B O M : Type 0} (g : FileMeanings F) (table : TableMeani
 module _ {F T S H R W B O M : Type 0} (g : FileMeanings F) (table : TableMeanings T H R W) (schedule : ScheduleMeanings S B O M) (shared : H) (rows : B)
     (q : Queues) (t : PassStreamer T H R W) (k : LoaderPoolView F) (r : PassPool T S H R W B O M) where
   -- samplers that are moved out of a prepared machine may draw
-  may_draw : (job : Job) (frames : ℕ) → IsReady g table schedule shared rows q t k r job.batch → IsJobFor (setup_by g frames k r) job
+  pub may_draw : (job : Job) (frames : ℕ) → IsReady g table schedule shared rows q t k r job.batch → IsJobFor (setup_by g frames k r) job
       → AllReady (MayDraw table schedule shared rows job.scene.shape job.scene.depth job.scene.path job.picture) r.samplers.elements
   may_draw job frames ready job_is n d inside =
       let a : PassSampler T S H R W B O M = get_or r.samplers.elements n d in
@@ -136,7 +136,7 @@ module _ {F T S H R W B O M : Type 0} (g : FileMeanings F) (table : TableMeaning
       }
 
   -- and so may the streamer stream
-  may_stream : (u : PassStreamer T H R W) (batch : List Planned) → IsReady g table schedule shared rows q t k r batch → u ≡ record t { answers = u.answers }
+  pub may_stream : (u : PassStreamer T H R W) (batch : List Planned) → IsReady g table schedule shared rows q t k r batch → u ≡ record t { answers = u.answers }
       → IsPassOfQueue q.results u.answers → MayStream table shared q batch u
   may_stream u batch ready own of = subst (λ (x : PassStreamer T H R W). MayStream table shared q batch x) (sym own) (record {
     of = ready.fit.of;
@@ -152,32 +152,32 @@ module _ {F T S H R W B O M : Type 0} (g : FileMeanings F) (table : TableMeaning
 module _ {F T S P H R W B O M : Type 0} (g : FileMeanings F) (table : TableMeanings T H R W) (schedule : ScheduleMeanings S B O M)
     (m : Machine F T S P H R W B O M) (t : PassStreamer T H R W) (there : m.streamer ≡ Some t) where
   ready_with : (batch : List Planned)
-      → IsReadyBy g table schedule m.shared.table m.shared.rows m.shared.queues m.streamer m.streams m.pool batch
-      → IsReady g table schedule m.shared.table m.shared.rows m.shared.queues t m.streams m.pool batch
+      → IsReadyBy g table schedule m.shared.parts.table m.shared.parts.rows m.shared.parts.queues m.streamer m.streams m.pool batch
+      → IsReady g table schedule m.shared.parts.table m.shared.parts.rows m.shared.parts.queues t m.streams m.pool batch
   ready_with batch ready = subst (λ (x : Option (PassStreamer T H R W)).
-      IsReadyBy g table schedule m.shared.table m.shared.rows m.shared.queues x m.streams m.pool batch) there ready
+      IsReadyBy g table schedule m.shared.parts.table m.shared.parts.rows m.shared.parts.queues x m.streams m.pool batch) there ready
 
   pub samplers_may : (job : Job) (out : List (PassSampler T S H R W B O M))
-      → IsReadyBy g table schedule m.shared.table m.shared.rows m.shared.queues m.streamer m.streams m.pool job.batch
+      → IsReadyBy g table schedule m.shared.parts.table m.shared.parts.rows m.shared.parts.queues m.streamer m.streams m.pool job.batch
       → IsJobFor (state_of g table m).setup job → out ≡ m.pool.samplers.elements
-      → AllReady (MayDraw table schedule m.shared.table m.shared.rows job.scene.shape job.scene.depth job.scene.path job.picture) out
+      → AllReady (MayDraw table schedule m.shared.parts.table m.shared.parts.rows job.scene.shape job.scene.depth job.scene.path job.picture) out
   samplers_may job out ready job_is same =
-      subst (AllReady (MayDraw table schedule m.shared.table m.shared.rows job.scene.shape job.scene.depth job.scene.path job.picture)) (sym same)
-      (may_draw g table schedule m.shared.table m.shared.rows m.shared.queues t m.streams m.pool job (frames_by table m.streamer)
+      subst (AllReady (MayDraw table schedule m.shared.parts.table m.shared.parts.rows job.scene.shape job.scene.depth job.scene.path job.picture)) (sym same)
+      (may_draw g table schedule m.shared.parts.table m.shared.parts.rows m.shared.parts.queues t m.streams m.pool job (frames_by table m.streamer)
       (ready_with job.batch ready) job_is)
 
   pub streamer_may : (u : PassStreamer T H R W) (batch : List Planned)
-      → IsReadyBy g table schedule m.shared.table m.shared.rows m.shared.queues m.streamer m.streams m.pool batch
-      → u ≡ record t { answers = u.answers } → IsPassOfQueue m.shared.queues.results u.answers
-      → MayStream table m.shared.table m.shared.queues batch u
+      → IsReadyBy g table schedule m.shared.parts.table m.shared.parts.rows m.shared.parts.queues m.streamer m.streams m.pool batch
+      → u ≡ record t { answers = u.answers } → IsPassOfQueue m.shared.parts.queues.results u.answers
+      → MayStream table m.shared.parts.table m.shared.parts.queues batch u
   streamer_may u batch ready own of =
-      may_stream g table schedule m.shared.table m.shared.rows m.shared.queues t m.streams m.pool u batch (ready_with batch ready) own of
+      may_stream g table schedule m.shared.parts.table m.shared.parts.rows m.shared.parts.queues t m.streams m.pool u batch (ready_with batch ready) own of
 
 -- what a machine may be asked between its passes, said of its streamer
 module _ {F T S P H R W B O M : Type 0} (g : FileMeanings F) (table : TableMeanings T H R W) (m : Machine F T S P H R W B O M) (t : PassStreamer T H R W)
-    (there : m.streamer ≡ Some t) (was : IsIdleBy g table m.shared.table m.streamer m.streams m.pool) where
-  pub idle_with : IsIdle g table m.shared.table t m.streams m.pool
-  idle_with = subst (λ (x : Option (PassStreamer T H R W)). IsIdleBy g table m.shared.table x m.streams m.pool) there was
+    (there : m.streamer ≡ Some t) (was : IsIdleBy g table m.shared.parts.table m.streamer m.streams m.pool) where
+  pub idle_with : IsIdle g table m.shared.parts.table t m.streams m.pool
+  idle_with = subst (λ (x : Option (PassStreamer T H R W)). IsIdleBy g table m.shared.parts.table x m.streams m.pool) there was
 
   pub record CanPlace (page frame : ℕ) (tile : List ℕ) : Type 0 where
     pub page_inside : page < pages_of (table.shape t.writer)

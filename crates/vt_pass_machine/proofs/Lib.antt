@@ -3,7 +3,8 @@ mod Listed
 mod Fills
 mod Replaying
 mod PartlyRead
-mod Idle
+pub mod Idle
 mod Placing
-mod Preparing
-mod Finishing
+pub mod Preparing
+pub mod Finishing
+pub mod HeldRows

@@ -20,14 +20,14 @@ use Rattle.vt_loading.specs.Drawings.{Drawing, drawing_of, RowRelation}
 use Rattle.vt_loading.specs.Machines.{Setup, MachineState, files_of, known_bytes}
 use Rattle.vt_loading.specs.Outcomes.{IsBatchFor}
 use Rattle.vt_loading.specs.Passes.{EndsPassRun}
-use Rattle.vt_loading.specs.LoaderPools.{LoaderPoolView, IsLoaderPool, IsAskedStream, AreLoadersOut, StreamBegun, stream_before, MayEndStream}
+use Rattle.vt_loading.specs.LoaderPools.{LoaderPoolView, IsLoaderPool, IsPreparedStream, IsAskedStream, AreLoadersOut, StreamBegun, stream_before, MayEndStream}
 use Rattle.vt_pass_pool.specs.PageTableTypes.table.PageTable.{Ghosts as TableMeanings}
 use Rattle.vt_pass_pool.specs.Fills.{AreStoredPages, FillsOne}
 use Rattle.vt_pass_pool.specs.SchedulesTypes.schedule.Schedule.{Ghosts as ScheduleMeanings}
 use Rattle.vt_pass_pool.specs.declared.pool.PassPool.{PassPool}
 use Rattle.vt_pass_pool.specs.PassRowsTypes.sampler.PassSampler.{PassSampler}
 use Rattle.vt_pass_pool.specs.Placing.{bytes_of}
-use Rattle.vt_pass_pool.specs.Pools.{IsIdlePool, IsReadyPool}
+use Rattle.vt_pass_pool.specs.Pools.{IsIdlePool, IsDealtPool, IsReadyPool}
 use Rattle.vt_pass_pool.specs.Ended.{MayEnd, WasDrawn, IsHeldRow}
 use Rattle.vt_pass_pool.specs.declared.shared.PassStreamer.{PassStreamer}
 use Rattle.vt_pass_pool.specs.PassTasks.{HasStreamed}
@@ -102,6 +102,16 @@ pub record IsIdle {F T S H R W B O M : Type 0} (g : FileMeanings F) (table : Tab
   pub samplers : IsIdlePool table t.writer r
   pub agree : Agree k r
 
+-- all memory was taken for a pass of a batch, which is lawful for the newest version: the requests are still to be put, and the readers to be opened
+pub record IsPrepared {F T S H R W B O M : Type 0} (g : FileMeanings F) (table : TableMeanings T H R W) (schedule : ScheduleMeanings S B O M) (shared : H)
+    (rows : B) (q : Queues) (t : PassStreamer T H R W) (k : LoaderPoolView F) (r : PassPool T S H R W B O M) (batch : List Planned) : Type 0 where
+  pub fit : IsFit g table shared t k
+  pub prepared : IsPreparedStream g q t.answers t.report k batch
+  pub lawful : IsBatchFor (table.shape t.writer) (table.frame_count t.writer) (newest (table.journal t.writer)) batch
+  pub room : table.has_room t.writer (2 * length batch)
+  pub samplers : IsDealtPool table schedule t.writer rows r
+  pub agree : Agree k r
+
 -- a pass is prepared for a batch, which is lawful for the newest version, at which the pass starts
 pub record IsReady {F T S H R W B O M : Type 0} (g : FileMeanings F) (table : TableMeanings T H R W) (schedule : ScheduleMeanings S B O M) (shared : H)
     (rows : B) (q : Queues) (t : PassStreamer T H R W) (k : LoaderPoolView F) (r : PassPool T S H R W B O M) (batch : List Planned) : Type 0 where
@@ -161,7 +171,7 @@ pub record IsDetached {F T S P H R W B O M : Type 0} (g : FileMeanings F) (m n :
   pub was : PassStreamer T H R W
   pub there : m.streamer ≡ Some was
   pub streamer_is : t ≡ record was { answers = t.answers }
-  pub loaders_out : AreLoadersOut g m.shared.queues m.streams n.streams was.answers t.answers loaders
+  pub loaders_out : AreLoadersOut g m.shared.parts.queues m.streams n.streams was.answers t.answers loaders
   pub samplers_are : samplers ≡ m.pool.samplers.elements
   pub pool : n.pool ≡ record m.pool { samplers = n.pool.samplers }
 
@@ -187,13 +197,13 @@ pub record MayFinishOut {F T S P H R W B O M : Type 0} (g : FileMeanings F) (tab
     (filter : FilterMeanings P) (n : Machine F T S P H R W B O M) (job : Job) (loaders : List (QueuedView F))
     (samplers : List (PassSampler T S H R W B O M)) (t : PassStreamer T H R W) (b : Begun F T S H R W B O M) : Type 0 where
   pub gone : n.streamer ≡ None
-  pub may : MayFinish g table schedule filter n.shared.table n.shared.rows n.shared.queues n.streams n.pool job loaders samplers t b
+  pub may : MayFinish g table schedule filter n.shared.parts.table n.shared.parts.rows n.shared.parts.queues n.streams n.pool job loaders samplers t b
 
 -- how a pass of a machine ends
 abbrev pub PassEnds : {F T S P H R W B O M : Type 0} → FileMeanings F → TableMeanings T H R W → ScheduleMeanings S B O M → FilterMeanings P → Job
     → Result PassReport NoMemory → MachineState → Machine F T S P H R W B O M → Type 0
 PassEnds g table schedule filter job result before p = EndsPassRun (drawing_by_turns filter schedule.DEALT)
-    (drawn_by table filter schedule.DEALT p.pool p.streamer) (IsIdleBy g table p.shared.table p.streamer p.streams p.pool) job result before (state_of g table p)
+    (drawn_by table filter schedule.DEALT p.pool p.streamer) (IsIdleBy g table p.shared.parts.table p.streamer p.streams p.pool) job result before (state_of g table p)
 
 -- however the work began, what was done is a pass, and its rows came in it; or memory was refused
 abbrev pub Finishes : {F T S P H R W B O M : Type 0} → FileMeanings F → TableMeanings T H R W → ScheduleMeanings S B O M → FilterMeanings P → Job
@@ -204,3 +214,9 @@ Finishes g table schedule filter job result n loaders samplers t p = (b : Begun 
     → PassEnds g table schedule filter job result (state_by g (table.frame_count b.streamer.writer) (table.journal b.streamer.writer)
     (stream_before n.streams b.stream) n.pool) p
     × IfOk result (λ report. held_from table filter b.streamer.writer b.samplers p.streamer p.pool job report.rows.elements)
+
+-- there are both streamers, and this holds of their writers
+abbrev pub OfWriters : {T H R W : Type 0} → (W → W → Type 0) → Option (PassStreamer T H R W) → Option (PassStreamer T H R W) → Type 0
+OfWriters P None o = ⊥
+OfWriters P (Some t) None = ⊥
+OfWriters P (Some t) (Some u) = P t.writer u.writer

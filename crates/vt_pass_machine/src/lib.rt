@@ -5,6 +5,10 @@ mod machine;
 mod passes;
 
 pub use machine::Machine;
+pub use passes::{begin_pass, end_pass};
 pub use vt_loading::PassMachine;
 pub use vt_outside::File;
-pub use vt_pass_pool::{Dealt, Filter, PassShared, PassStreamer, Schedule, Shared};
+pub use vt_pass_pool::{
+    Dealt, FeedbackCounts, Filter, Geometry, Nothing, PageTable, PassPool, PassSampler,
+    PassStreamer, Path, Schedule, Shared, Shot,
+};

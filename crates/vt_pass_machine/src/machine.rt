@@ -14,14 +14,14 @@ use vt_load::{QueuedLoader, Stores};
 use vt_loading::{Batch, Crew, LoaderPool, PassMachine, PassReport, blank_report, new_queues};
 use vt_outside::{File, Gate, Items, NoMemory};
 use vt_pass_pool::{
-    FeedbackCounts as Counts, Filter, Geometry, Journal, PageTable, PassPool, PassSampler,
-    PassShared, PassStreamer, Path, Schedule, Shot,
+    FeedbackCounts as Counts, Filter, Geometry, Journal, OwnParts, PageTable, PassPool,
+    PassSampler, PassShared, PassStreamer, Path, Schedule, Shot,
 };
 
 /// A machine that draws the rows of a picture by a filter from a page table, as a schedule says which sampler draws which row, and that streams
 /// the batch at the same time.
 pub struct Machine<F: File, T: PageTable, S: Schedule, P: Filter> {
-    shared: PassShared<T, S, P>,
+    shared: PassShared<OwnParts<T, S, P>>,
     // It is out while a pass is run.
     streamer: Option<PassStreamer<T>>,
     streams: LoaderPool<F>,
@@ -42,7 +42,7 @@ where
 
     type File = F;
 
-    type Shared = PassShared<T, S, P>;
+    type Shared = PassShared<OwnParts<T, S, P>>;
 
     type Loader = QueuedLoader<F>;
 
@@ -62,9 +62,9 @@ where
 
     ghost state = { λ m. state_of F.File T.PageTable m };
 
-    ghost is_idle = { λ m. IsIdleBy F.File T.PageTable m.shared.table m.streamer m.streams m.pool };
+    ghost is_idle = { λ m. IsIdleBy F.File T.PageTable m.shared.parts.table m.streamer m.streams m.pool };
 
-    ghost is_ready = { λ m batch. IsReadyBy F.File T.PageTable S.Schedule m.shared.table m.shared.rows m.shared.queues m.streamer m.streams m.pool
+    ghost is_ready = { λ m batch. IsReadyBy F.File T.PageTable S.Schedule m.shared.parts.table m.shared.parts.rows m.shared.parts.queues m.streamer m.streams m.pool
         batch };
 
     ghost drawn = { λ m. drawn_by T.PageTable P.Filter S.DEALT m.pool m.streamer };
@@ -116,10 +116,12 @@ where
         };
         Ok(Machine {
             shared: PassShared {
-                table,
-                rows,
-                queues,
-                filter: PhantomData,
+                parts: OwnParts {
+                    table,
+                    rows,
+                    queues,
+                    filter: PhantomData,
+                },
             },
             streamer: Some(streamer),
             streams,
@@ -135,7 +137,7 @@ where
         tile: &[u8],
     ) -> Result<(), NoMemory> {
         match &mut self.streamer {
-            Some(own) => place_page::<T, Rt>(rt, &self.shared.table, own, page, frame, tile),
+            Some(own) => place_page::<T, Rt>(rt, &self.shared.parts.table, own, page, frame, tile),
             None => unreachable!(),
         }
     }
@@ -145,10 +147,13 @@ where
         rt: &Rt,
         batch: &Batch,
     ) -> Result<(), NoMemory> {
+        let parts = &mut self.shared.parts;
         match &mut self.streamer {
-            Some(own) => prepare_pass::<Rt, F, T, S, P>(
+            Some(own) => prepare_pass::<Rt, F, T, S>(
                 rt,
-                &mut self.shared,
+                &parts.table,
+                &mut parts.rows,
+                &mut parts.queues,
                 own,
                 &mut self.streams,
                 &mut self.pool,
@@ -170,7 +175,9 @@ where
         let own = mem::replace(&mut self.streamer, None);
         match own {
             Some(mut own) => {
-                let loaders = self.streams.detach(&self.shared.queues, &mut own.answers);
+                let loaders = self
+                    .streams
+                    .detach(&self.shared.parts.queues, &mut own.answers);
                 let samplers = self.pool.detach();
                 (loaders, samplers, own)
             }
@@ -178,7 +185,7 @@ where
         }
     }
 
-    fn shared(&self) -> &PassShared<T, S, P> {
+    fn shared(&self) -> &PassShared<OwnParts<T, S, P>> {
         &self.shared
     }
 
@@ -200,7 +207,9 @@ where
     {
         let report = end_pass::<Rt, F, T, S, P>(
             rt,
-            &self.shared,
+            &self.shared.parts.table,
+            &self.shared.parts.rows,
+            &self.shared.parts.queues,
             &mut self.streams,
             &mut self.pool,
             loaders,

@@ -10,21 +10,21 @@ ghost use Rattle.vt_loading.specs.Crews.{AreFrames, last_start};
 ghost use Rattle.vt_loading.specs.Jobs.{job_of};
 ghost use Rattle.vt_loading.specs.Outcomes.{IsBatchFor};
 ghost use Rattle.vt_load.specs.Format.{tile_length};
+ghost use Rattle.vt_loading.specs.RoundStocks.{AreEmptied};
 ghost use Rattle.vt_loading.specs.LoaderPools.{IsSameStream, HasEndedStream};
 ghost use Rattle.vt_pass_pool.specs.Pools.{IsIdlePool};
 ghost use Rattle.vt_pass_pool.specs.Stills.{IsStill};
 ghost use Rattle.vt_pass_pool.specs.Ended.{HasEnded};
-ghost use Rattle.vt_pass_machine.specs.Machines.{IsSound, HasPlaced, IsIdle, IsReady, Begun, MayFinish};
+ghost use Rattle.vt_pass_machine.specs.Machines.{IsSound, HasPlaced, IsIdle, IsPrepared, IsReady, Begun, MayFinish};
 
 use std::alloc::Global;
 use std::sync::Wait;
 use std::thread::Threads;
-use vt_load::QueuedLoader;
+use vt_load::{QueuedLoader, Queues};
 use vt_loading::{Batch, LoaderPool, PassReport};
 use vt_outside::{File, Items, NoMemory};
 use vt_pass_pool::{
-    Filter, Geometry, PageTable, PassPool, PassSampler, PassShared, PassStreamer, Path, Schedule,
-    Shot,
+    Filter, Geometry, PageTable, PassPool, PassSampler, PassStreamer, Path, Schedule, Shot,
 };
 
 /// A page table that maps nothing, with its writer, what is shared of the rows, and what samplers with its readers work with. It may wait.
@@ -118,40 +118,67 @@ pub(crate) fn place_page<T: PageTable, R: Wait>(
     T::place::<R>(rt, table, &mut own.writer, page, frame, tile, own.depth)
 }
 
-/// Makes all room for a pass that streams a batch, puts its requests into new queues, and makes the samplers ready.
-pub(crate) fn prepare_pass<Rt: Threads + Wait, F: File, T: PageTable, S: Schedule, P: Filter>(
+/// Makes the samplers of a prepared pass ready, and puts the requests of its batch. It takes no memory.
+pub fn begin_pass<Rt: Threads + Wait, F: File, T: PageTable, S: Schedule>(
     rt: &Rt,
-    shared: &mut PassShared<T, S, P>,
+    table: &T::Shared,
+    queues: &Queues,
+    own: &mut PassStreamer<T>,
+    streams: &mut LoaderPool<F>,
+    pool: &mut PassPool<T, S>,
+    batch: &Batch,
+)
+    requires prepared { (rows : S.Shared) × IsPrepared F.File T.PageTable S.Schedule table.now rows queues.now own.old streams.old pool.old
+        batch.now.elements }
+    requires root { IsSome (newest (T.journal own.old.writer) (root_of (T.shape own.old.writer))) }
+    ensures ready { (rows : S.Shared) → IsPrepared F.File T.PageTable S.Schedule table.now rows queues.now own.old streams.old pool.old
+        batch.now.elements → IsReady F.File T.PageTable S.Schedule table.now rows queues.now own.new streams.new pool.new batch.now.elements }
+    ensures still { IsStill T.PageTable table.now own.old.writer own.new.writer }
+    ensures own { own.new ≡ record own.old { writer = own.new.writer } }
+    ensures streams { streams.new ≡ record streams.old { round = streams.new.round } }
+    ensures pool { pool.new ≡ record pool.old { samplers = pool.new.samplers } }
+{
+    pool.open(table, &mut own.writer);
+    streams.ask(rt, queues, batch);
+}
+
+/// Makes all room for a pass that streams a batch, makes the samplers ready, and puts its requests into new queues.
+pub(crate) fn prepare_pass<Rt: Threads + Wait, F: File, T: PageTable, S: Schedule>(
+    rt: &Rt,
+    table: &T::Shared,
+    rows: &mut S::Shared,
+    queues: &mut Queues,
     own: &mut PassStreamer<T>,
     streams: &mut LoaderPool<F>,
     pool: &mut PassPool<T, S>,
     batch: &Batch,
 ) -> Result<(), NoMemory>
-    requires idle { IsIdle F.File T.PageTable shared.old.table own.old streams.old pool.old }
+    requires idle { IsIdle F.File T.PageTable table.now own.old streams.old pool.old }
     requires root { IsSome (newest (T.journal own.old.writer) (root_of (T.shape own.old.writer))) }
     requires lawful { IsBatchFor (T.shape own.old.writer) (T.frame_count own.old.writer) (newest (T.journal own.old.writer))
         batch.now.elements }
     requires few { length batch.now.elements ≤ streams.old.crew.batch }
     requires early { length (T.journal own.old.writer) ≤ last_start }
-    ensures ready { OnOk result (IsReady F.File T.PageTable S.Schedule shared.new.table shared.new.rows shared.new.queues own.new streams.new
-        pool.new batch.now.elements) }
-    ensures table { shared.new.table ≡ shared.old.table }
-    ensures still { IsStill T.PageTable shared.old.table own.old.writer own.new.writer }
+    ensures ready { OnOk result (IsReady F.File T.PageTable S.Schedule table.now rows.new queues.new own.new streams.new pool.new
+        batch.now.elements) }
+    ensures still { IsStill T.PageTable table.now own.old.writer own.new.writer }
     ensures streams { IsSameStream F.File streams.old streams.new }
     ensures sides { (pool.new.width ≡ pool.old.width) × (pool.new.height ≡ pool.old.height) }
 {
     let entries = batch.len() as u64;
-    make_room::<T>(&shared.table, &mut own.writer, 2 * entries)?;
-    streams.prepare(&mut shared.queues, &mut own.answers, &mut own.report, batch)?;
-    pool.prepare::<Rt>(rt, &shared.table, &mut shared.rows, &mut own.writer)?;
-    streams.ask(rt, &shared.queues, batch);
+    make_room::<T>(table, &mut own.writer, 2 * entries)?;
+    streams.prepare(queues, &mut own.answers, &mut own.report, batch)?;
+    pool.prepare::<Rt>(rt, rows)?;
+    begin_pass::<Rt, F, T, S>(rt, table, queues, own, streams, pool, batch);
     Ok(())
 }
 
 /// Ends the round of the loaders, brings the samplers home, and tells what the pass did, if memory was not refused. It may wait.
-pub(crate) fn end_pass<Rt: Threads + Wait, F: File, T: PageTable, S: Schedule, P: Filter>(
+pub fn end_pass<Rt: Threads + Wait, F: File, T: PageTable, S: Schedule, P: Filter>(
     rt: &Rt,
-    shared: &PassShared<T, S, P>,
+    table: &T::Shared,
+    rows: &S::Shared,
+    queues: &Queues,
     streams: &mut LoaderPool<F>,
     pool: &mut PassPool<T, S>,
     loaders: Items<QueuedLoader<F>>,
@@ -161,13 +188,13 @@ pub(crate) fn end_pass<Rt: Threads + Wait, F: File, T: PageTable, S: Schedule, P
     batch: &Batch,
 ) -> Result<PassReport, NoMemory>
     requires { (b : Begun F T S T.Shared T.Reader T.Writer S.Shared S.Own S.Home)
-        × MayFinish F.File T.PageTable S.Schedule P.Filter shared.now.table shared.now.rows shared.now.queues streams.old pool.old
+        × MayFinish F.File T.PageTable S.Schedule P.Filter table.now rows.now queues.now streams.old pool.old
         (job_of shot.now batch.now.elements) loaders.elements samplers.elements own.old b }
     ensures ended { (b : Begun F T S T.Shared T.Reader T.Writer S.Shared S.Own S.Home)
-        → MayFinish F.File T.PageTable S.Schedule P.Filter shared.now.table shared.now.rows shared.now.queues streams.old pool.old
+        → MayFinish F.File T.PageTable S.Schedule P.Filter table.now rows.now queues.now streams.old pool.old
         (job_of shot.now batch.now.elements) loaders.elements samplers.elements own.old b
         → HasEndedStream F.File streams.old streams.new batch.now.elements own.old.report b.stream }
-    ensures still { IsStill T.PageTable shared.now.table own.old.writer own.new.writer }
+    ensures still { IsStill T.PageTable table.now own.old.writer own.new.writer }
     ensures own { own.new ≡ record own.old { writer = own.new.writer; answers = own.new.answers; report = own.new.report } }
     ensures pool { pool.new ≡ record pool.old {
       home = pool.new.home;
@@ -178,7 +205,7 @@ pub(crate) fn end_pass<Rt: Threads + Wait, F: File, T: PageTable, S: Schedule, P
     } }
     ensures went_on { OnOk result (own.old.refused ≡ false) }
     ensures drawn { IfOk result (λ report. (b : Begun F T S T.Shared T.Reader T.Writer S.Shared S.Own S.Home)
-        → MayFinish F.File T.PageTable S.Schedule P.Filter shared.now.table shared.now.rows shared.now.queues streams.old pool.old
+        → MayFinish F.File T.PageTable S.Schedule P.Filter table.now rows.now queues.now streams.old pool.old
         (job_of shot.now batch.now.elements) loaders.elements samplers.elements own.old b
         → HasEnded T.PageTable P.Filter S.DEALT pool.old pool.new (job_of shot.now batch.now.elements).scene shot.now.picture
         (length (T.journal b.streamer.writer)) own.old.writer own.new.writer b.samplers report.rows.elements) }
@@ -186,29 +213,18 @@ pub(crate) fn end_pass<Rt: Threads + Wait, F: File, T: PageTable, S: Schedule, P
     ensures events { IfOk result (λ report. report.events.elements ≡ own.old.report.events.elements) }
     ensures losses { IfOk result (λ report. report.losses.elements ≡ own.old.report.losses.elements) }
     ensures refused { OnErr result T.refuses }
+    ensures emptied { AreEmptied queues.now streams.new.round.asks own.new.answers }
 {
-    let (events, losses) = streams.end_round(
-        &shared.queues,
-        loaders,
-        &mut own.answers,
-        &mut own.report,
-    );
+    let (events, losses) = streams.end_round(queues, loaders, &mut own.answers, &mut own.report);
     if own.refused {
         return Err(NoMemory);
     }
-    let rows = pool.finish::<P, Rt>(
-        rt,
-        &shared.table,
-        &shared.rows,
-        &mut own.writer,
-        samplers,
-        shot,
-    )?;
-    if !T::is_sound(&shared.table, &own.writer) {
+    let lines = pool.finish::<P, Rt>(rt, table, rows, &mut own.writer, samplers, shot)?;
+    if !T::is_sound(table, &own.writer) {
         return Err(NoMemory);
     }
     Ok(PassReport {
-        rows,
+        rows: lines,
         events,
         losses,
     })

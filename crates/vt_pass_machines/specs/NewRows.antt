@@ -1,5 +1,5 @@
--- How the rows of a pass came in it.
-use Rattle.std.specs.Prelude.{◌≡◌, ℕ, Option, None, Some, List, [], slice_get, slice_index_or, Contains}
+-- How the rows of a pass over the swapped table came in it.
+use Rattle.std.specs.Prelude.{◌≡◌, ℕ, Option, None, Some, List, [], slice_get, slice_index_or}
 use Rattle.vt_pass_machine.specs.Shape.{Shape}
 use Rattle.vt_pass_machine.specs.Paths.{PathView}
 use Rattle.vt_pass_machine.specs.Shots.{shot_row}
@@ -7,40 +7,12 @@ use Rattle.vt_pass_machine.specs.Evidence.{AreShown}
 use Rattle.vt_pass_machine.specs.JournalTypes.changes.RowLine.{RowLine}
 use Rattle.vt_pass_machine.specs.PicturesTypes.filters.Filter.{Ghosts as FilterMeanings}
 use Rattle.vt_pass_machine.specs.PassRowsTypes.sampler.PassSampler.{PassSampler}
-use Rattle.vt_pass_machine.specs.PassPoolTypes.shared.PassStreamer.{PassStreamer}
-use Rattle.vt_word_table.specs.GraceTypes.views.Returned.{Returned}
-use Rattle.vt_word_table.specs.GraceTypes.views.WriterView.{WriterView}
-use Rattle.vt_word_table.specs.WriterViews.{version_of}
-use Rattle.vt_word_table.specs.Noted.{AreNotedRows}
-use Rattle.vt_word_table.specs.WordWriters.{HasTakenMore}
 use Rattle.vt_swap_table.specs.Readers.{ReaderView}
 use Rattle.vt_swap_table.specs.Notes.{IsSaidBy}
 use Rattle.vt_swap_table.specs.Streamers.{StreamerView}
 use Rattle.vt_swap_table.specs.Entered.{WasEnteredBetween}
 use Rattle.vt_swap_table.specs.SwapWriters.{IsKnownIf}
 use Rattle.vt_swap_table.specs.declared.table.SwapReader.{SwapReader}
-
--- there are both streamers, and this holds of their writers
-abbrev pub OfWriters : {T H R W : Type 0} → (W → W → Type 0) → Option (PassStreamer T H R W) → Option (PassStreamer T H R W) → Type 0
-OfWriters P None o = ⊥
-OfWriters P (Some t) None = ⊥
-OfWriters P (Some t) (Some u) = P t.writer u.writer
-
--- a line's version is one that a pass of its sampler held, which was given at this start and is among these that were taken back
-pub record IsHeldLine (start : ℕ) (returned : List Returned) (line : RowLine) : Type 0 where
-  pub by : Returned
-  pub among : Contains returned by
-  pub sampler : by.sampler ≡ line.sampler
-  pub given : by.given ≡ start
-  pub held : Contains by.held line.version
-
--- the rows of a picture of a path came between two views of the writer of shared words: passes were taken back, each row was drawn by a filter at its
--- line's version, which such a pass of its sampler had held that was given at the newest version of the first view, and by notes that came back since
-pub record AreNewRows {P : Type 0} (filter : FilterMeanings P) (s : Shape) (d : ℕ) (v w : WriterView) (path : PathView) (i : ℕ)
-    (lines : List RowLine) (rows : List (List ℕ)) : Type 0 where
-  pub taken : HasTakenMore v w
-  pub held : (y : ℕ) (line : RowLine) → slice_get lines y ≡ Some line → IsHeldLine (version_of v) taken.returned line
-  pub noted : AreNotedRows filter s d v w path i lines rows
 
 -- the reader of a sampler of the swapped table, if both are there
 abbrev pub reader_by : {T S H W B O M : Type 0} → Option (PassSampler T S H SwapReader W B O M) → Option ReaderView

@@ -16,6 +16,7 @@ pub use Rattle.vt_pass_rows.specs.PicturesTypes
 pub use Rattle.vt_pass_rows.specs.Replays
 pub use Rattle.vt_pass_rows.specs.Rows
 pub use Rattle.vt_pass_rows.specs.Samplers
+pub use Rattle.vt_pass_rows.specs.SchedulesRows
 pub use Rattle.vt_pass_rows.specs.Scenes
 pub use Rattle.vt_pass_rows.specs.SchedulesTypes
 pub use Rattle.vt_pass_rows.specs.Shots

@@ -62,6 +62,31 @@ pub record IsIdlePool {T S H R W B O M : Type 0} (table : TableMeanings T H R W)
   pub home : AreAtHome table w k.samplers.elements
   pub rows : AreRowsInPlace k.height (line_length k) k.drawn.elements
 
+-- they have the same readers
+abbrev pub HaveSameReaders : {T S H R W B O M : Type 0} → List (PassSampler T S H R W B O M) → List (PassSampler T S H R W B O M) → Type 0
+HaveSameReaders before after = (k : ℕ) (a b : _) → slice_get before k ≡ Some a → slice_get after k ≡ Some b → b.reader ≡ a.reader
+
+-- a sampler has a way to the rows of a picture of so many, and room for them
+pub record HasWay {T S H R W B O M : Type 0} (schedule : ScheduleMeanings S B O M) (rows : B) (height line : ℕ) (a : PassSampler T S H R W B O M) : Type 0 where
+  pub of : schedule.is_of rows height line a.own
+  pub room : height ≤ a.kept.spare
+
+abbrev pub HaveWays : {T S H R W B O M : Type 0} → ScheduleMeanings S B O M → B → ℕ → ℕ → List (PassSampler T S H R W B O M) → Type 0
+HaveWays schedule rows height line samplers = (k : ℕ) (a : _) → slice_get samplers k ≡ Some a → HasWay schedule rows height line a
+
+-- the reader of a sampler was opened for a pass that starts at a version
+pub record IsOpenedSampler {T S H R W B O M : Type 0} (table : TableMeanings T H R W) (shared : H) (s : Shape) (start number : ℕ)
+    (a b : PassSampler T S H R W B O M) : Type 0 where
+  pub rest : b ≡ record a { reader = b.reader }
+  pub opened : table.is_open shared s number b.reader
+  pub start_is : table.start b.reader ≡ start
+
+pub record AreOpened {T S H R W B O M : Type 0} (table : TableMeanings T H R W) (shared : H) (s : Shape) (start : ℕ)
+    (before after : List (PassSampler T S H R W B O M)) : Type 0 where
+  pub count : length after ≡ length before
+  pub each : (k : ℕ) (a b : PassSampler T S H R W B O M) → slice_get before k ≡ Some a → slice_get after k ≡ Some b
+      → IsOpenedSampler table shared s start k a b
+
 -- a sampler is ready for a pass that starts at a version: its reader was opened, and it has a way to rows and room for them
 pub record IsReadySampler {T S H R W B O M : Type 0} (table : TableMeanings T H R W) (schedule : ScheduleMeanings S B O M) (shared : H) (rows : B) (s : Shape)
     (height line start number : ℕ) (a : PassSampler T S H R W B O M) : Type 0 where
@@ -74,6 +99,16 @@ abbrev pub AreReady : {T S H R W B O M : Type 0} → TableMeanings T H R W → S
     → List (PassSampler T S H R W B O M) → Type 0
 AreReady table schedule shared rows s height line start samplers =
     (k : ℕ) (a : _) → slice_get samplers k ≡ Some a → IsReadySampler table schedule shared rows s height line start k a
+
+-- all rows were dealt to the samplers, whose readers are still at home
+pub record IsDealtPool {T S H R W B O M : Type 0} (table : TableMeanings T H R W) (schedule : ScheduleMeanings S B O M) (w : W) (rows : B)
+    (k : PassPool T S H R W B O M) : Type 0 where
+  pub pool : IsPool k k.samplers.elements
+  pub home : AreAtHome table w k.samplers.elements
+  pub ways : HaveWays schedule rows k.height (line_length k) k.samplers.elements
+  pub home_is : schedule.is_home rows k.home
+  pub dealt : schedule.has_dealt rows k.height (line_length k) k.count (ways_of k.samplers.elements) k.home
+  pub line_room : k.height ≤ k.lines.spare
 
 -- a pass that starts at a version is prepared: these samplers are ready, and all rows were dealt to them
 pub record IsReadyPool {T S H R W B O M : Type 0} (table : TableMeanings T H R W) (schedule : ScheduleMeanings S B O M) (shared : H) (rows : B) (start : ℕ)

@@ -2,6 +2,7 @@
 //! made, made ready for a pass, and brought home after it with the rows that they drew.
 #![tactic(auto)]
 
+mod dealing;
 mod ending;
 mod making;
 mod opening;
@@ -12,8 +13,10 @@ mod shared;
 mod tasks;
 
 pub use pool::PassPool;
-pub use shared::{PassShared, PassStreamer};
+pub use shared::{InCommon, LentParts, OwnParts, PassShared, PassStreamer};
 pub use vt_journal::{Geometry, Journal};
 pub use vt_pass_rows::{
-    Dealt, FeedbackCounts, Filter, PageTable, PassSampler, Path, RowJob, Schedule, Shared, Shot,
+    Dealt, FeedbackCounts, Filter, Nothing, PageTable, PassSampler, Path, RowJob, Schedule, Shared,
+    Shot,
 };
+pub use vt_pass_stream::StreamReport;

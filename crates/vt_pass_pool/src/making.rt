@@ -3,6 +3,7 @@
 ghost use Rattle.std.specs.Prelude.{◌≡◌, ℕ, ◌≤◌, List, length, reverse, IfOk};
 ghost use Rattle.vt_definitions.specs.Depths.{IsDepth};
 ghost use Rattle.vt_pass_rows.specs.Samplers.{row_length};
+ghost use Rattle.vt_pass_rows.specs.Paths.{ArePictureSides};
 ghost use Rattle.vt_pass_rows.specs.Readers.{AreHome};
 ghost use Rattle.vt_pass_rows.specs.SchedulesRows.{AreRowsInPlace};
 ghost use Rattle.vt_pass_pool.specs.Pools.{IsSampler, AreSamplers, AreAtHome};
@@ -11,7 +12,7 @@ use std::alloc::Global;
 use vt_definitions::texel_length;
 use vt_journal::Geometry;
 use vt_outside::{Items, NoMemory};
-use vt_pass_rows::{PageTable, PassSampler, Path, RowJob, Schedule};
+use vt_pass_rows::{PageTable, PassSampler, RowJob, Schedule};
 
 // A list in the other order.
 fn turned<I: Drop>(alloc: Global, list: Items<I>) -> Result<Items<I>, NoMemory>
@@ -91,12 +92,18 @@ fn new_rows(alloc: Global, height: u32, line: &[u8]) -> Result<Items<RowJob>, No
     Ok(rows)
 }
 
-/// The rows of the pictures of a path, with buffers of zeros.
-pub(crate) fn blank_rows(alloc: Global, path: &Path, depth: u32) -> Result<Items<RowJob>, NoMemory>
-    requires { IsDepth depth }
-    ensures { IfOk result (λ made. AreRowsInPlace path.now.height (row_length depth path.now.width) made.elements) }
+/// The rows of pictures of these sides, with buffers of zeros.
+pub(crate) fn blank_rows(
+    alloc: Global,
+    width: u32,
+    height: u32,
+    depth: u32,
+) -> Result<Items<RowJob>, NoMemory>
+    requires depth { IsDepth depth }
+    requires sides { ArePictureSides width height }
+    ensures { IfOk result (λ made. AreRowsInPlace height (row_length depth width) made.elements) }
 {
-    let line = texel_length(depth) * path.width() as usize;
+    let line = texel_length(depth) * width as usize;
     let blank = Vec::from_elem(alloc, 0, line)?;
-    new_rows(alloc, path.height(), blank.as_slice())
+    new_rows(alloc, height, blank.as_slice())
 }

@@ -11,10 +11,11 @@ ghost use Rattle.vt_pass_rows.specs.Scenes.{scene_of};
 ghost use Rattle.vt_pass_rows.specs.Readers.{AreHome};
 ghost use Rattle.vt_pass_rows.specs.declared.sampler.PassSampler.{PassSampler as Sampler};
 ghost use Rattle.vt_pass_pool.specs.Placing.{bytes_of};
-ghost use Rattle.vt_pass_pool.specs.Pools.{IsIdlePool, IsReadyPool};
+ghost use Rattle.vt_pass_pool.specs.Pools.{line_length, IsPool, IsIdlePool, IsDealtPool, IsReadyPool, AreAtHome};
 ghost use Rattle.vt_pass_pool.specs.Stills.{IsStill};
 ghost use Rattle.vt_pass_pool.specs.Ended.{MayEnd, HasEnded};
 
+use crate::dealing::deal_samplers;
 use crate::ending::end_rows;
 use crate::making::{blank_rows, new_samplers};
 use crate::opening::open_samplers;
@@ -25,7 +26,8 @@ use vt_definitions::texel_length;
 use vt_journal::{Geometry, RowLines};
 use vt_outside::{Items, NoMemory};
 use vt_pass_rows::{
-    FeedbackCounts as Counts, Filter, PageTable, PassSampler, Path, RowJob, Schedule, Shot,
+    Dealt, FeedbackCounts as Counts, Filter, Nothing, PageTable, PassSampler, Path, RowJob,
+    Schedule, Shot,
 };
 
 /// What the samplers of a machine work with: the samplers, the rows of the last picture, and room for what a pass tells of them.
@@ -77,15 +79,17 @@ impl<T: PageTable, S: Schedule> PassPool<T, S> {
         ensures height { IfOk result (λ k. k.height ≡ path.now.height) }
         ensures count { IfOk result (λ k. k.count ≡ count) }
     {
+        let width = path.width();
+        let height = path.height();
         let samplers = new_samplers::<T, S>(alloc, geometry, count, readers)?;
-        let drawn = blank_rows(alloc, path, depth)?;
+        let drawn = blank_rows(alloc, width, height, depth)?;
         let counts = Counts::new(alloc, geometry)?;
         Ok(PassPool {
             alloc,
             geometry: *geometry,
             depth,
-            width: path.width(),
-            height: path.height(),
+            width,
+            height,
             count,
             home,
             samplers,
@@ -102,22 +106,30 @@ impl<T: PageTable, S: Schedule> PassPool<T, S> {
         &self.counts
     }
 
-    /// Makes the samplers ready for a pass that starts at the newest version. It may wait, where the schedule does to begin.
-    pub fn prepare<R: Wait>(
-        &mut self,
-        rt: &R,
-        table: &T::Shared,
-        rows: &mut S::Shared,
-        writer: &mut T::Writer,
-    ) -> Result<(), NoMemory>
-        requires idle { IsIdlePool T.PageTable writer.old self.old }
-        requires of { T.is_of table.now writer.old }
-        requires shape { T.shape writer.old ≡ self.old.geometry }
-        requires root { IsSome (newest (T.journal writer.old) (root_of (T.shape writer.old))) }
-        ensures still { IsStill T.PageTable table.now writer.old writer.new }
-        ensures room { (n : ℕ) → T.has_room writer.old n → T.has_room writer.new n }
-        ensures ready { OnOk result (IsReadyPool T.PageTable S.Schedule table.now rows.new (length (T.journal writer.old)) self.new
-            self.new.samplers.elements) }
+    // Deals the rows to the samplers, once the dealing was begun.
+    fn deal(&mut self, rows: &S::Shared) -> Result<(), NoMemory>
+        requires pool { IsPool self.old self.old.samplers.elements }
+        requires home { S.is_home rows.now self.old.home }
+        ensures dealt { OnOk result ((w : T.Writer) → AreAtHome T.PageTable w self.old.samplers.elements
+            → S.has_dealt rows.now self.old.height (line_length self.old) self.old.count [] self.old.home
+            → self.old.height ≤ self.old.lines.spare → IsDealtPool T.PageTable S.Schedule w rows.now self.new) }
+        ensures rest { self.new ≡ record self.old { home = self.new.home; samplers = self.new.samplers } }
+    {
+        deal_samplers::<T, S>(
+            self.alloc,
+            rows,
+            &mut self.home,
+            self.count,
+            self.height,
+            self.samplers.slice_mut(),
+        )
+    }
+
+    /// Takes all memory of a pass, and deals its rows to the samplers. It may wait, where the schedule does to begin.
+    pub fn prepare<R: Wait>(&mut self, rt: &R, rows: &mut S::Shared) -> Result<(), NoMemory>
+        requires idle { (w : T.Writer) × IsIdlePool T.PageTable w self.old }
+        ensures dealt { OnOk result ((w : T.Writer) → IsIdlePool T.PageTable w self.old
+            → IsDealtPool T.PageTable S.Schedule w rows.new self.new) }
         ensures rest { self.new ≡ record self.old {
           home = self.new.home;
           samplers = self.new.samplers;
@@ -127,16 +139,23 @@ impl<T: PageTable, S: Schedule> PassPool<T, S> {
     {
         self.lines.reserve(u64::from(self.height))?;
         S::begin::<R>(rt, self.alloc, rows, &mut self.home, self.drawn.slice_mut())?;
-        open_samplers::<T, S>(
-            self.alloc,
-            table,
-            rows,
-            writer,
-            &mut self.home,
-            self.count,
-            self.height,
-            self.samplers.slice_mut(),
-        )
+        self.deal(rows)
+    }
+
+    /// Opens the readers of the samplers for a pass that starts at the newest version, once its rows were dealt. It takes no memory and
+    /// waits for nobody.
+    pub fn open(&mut self, table: &T::Shared, writer: &mut T::Writer)
+        requires dealt { (rows : S.Shared) × IsDealtPool T.PageTable S.Schedule writer.old rows self.old }
+        requires of { T.is_of table.now writer.old }
+        requires shape { T.shape writer.old ≡ self.old.geometry }
+        requires root { IsSome (newest (T.journal writer.old) (root_of (T.shape writer.old))) }
+        ensures still { IsStill T.PageTable table.now writer.old writer.new }
+        ensures room { (n : ℕ) → T.has_room writer.old n → T.has_room writer.new n }
+        ensures ready { (rows : S.Shared) → IsDealtPool T.PageTable S.Schedule writer.old rows self.old
+            → IsReadyPool T.PageTable S.Schedule table.now rows (length (T.journal writer.old)) self.new self.new.samplers.elements }
+        ensures rest { self.new ≡ record self.old { samplers = self.new.samplers } }
+    {
+        open_samplers::<T, S>(table, writer, self.samplers.slice_mut());
     }
 
     /// Moves the samplers out.
@@ -206,5 +225,25 @@ impl<T: PageTable, S: Schedule> PassPool<T, S> {
             out.extend_from_slice(self.drawn.at(y).samples.slice())?;
         }
         Ok(())
+    }
+}
+
+impl<T: PageTable> PassPool<T, Dealt> {
+    /// Prepares a pass as `prepare` does, where rows are dealt, and leaves the last picture there until its rows are drawn. It needs no
+    /// runtime, since it waits for nobody.
+    pub fn prepare_alone(&mut self, rows: &Nothing) -> Result<(), NoMemory>
+        requires idle { (w : T.Writer) × IsIdlePool T.PageTable w self.old }
+        ensures dealt { OnOk result ((w : T.Writer) → IsIdlePool T.PageTable w self.old
+            → IsDealtPool T.PageTable ⟦<Dealt as Schedule>⟧ w rows.now self.new) }
+        ensures rest { self.new ≡ record self.old {
+          home = self.new.home;
+          samplers = self.new.samplers;
+          lines = self.new.lines;
+        } }
+    {
+        self.lines.reserve(u64::from(self.height))?;
+        let mut fresh = blank_rows(self.alloc, self.width, self.height, self.depth)?;
+        Dealt::begin_alone(self.alloc, &mut self.home, fresh.slice_mut())?;
+        self.deal(rows)
     }
 }

@@ -5,64 +5,57 @@ ghost use Rattle.vt_pass_rows.specs.Samplers.{row_length};
 ghost use Rattle.vt_pass_rows.specs.PassSamplers.{MayDraw, HasDrawn};
 ghost use Rattle.vt_pass_pool.specs.PassTasks.{MayStream, HasStreamed};
 
-use crate::shared::{PassShared, PassStreamer};
+use crate::shared::{InCommon, PassShared, PassStreamer};
 use std::sync::Wait;
 use std::thread::Threads;
 use vt_load::QueuedLoader;
 use vt_outside::{File, Gate};
-use vt_pass_rows::{Filter, PageTable, PassSampler, Planned, Schedule, Shot, Task};
+use vt_pass_rows::{PassSampler, Planned, Schedule, Shot, Task};
 use vt_pass_stream::stream_into;
 
-impl<T: PageTable, S: Schedule, P: Filter + Sync> Task<PassShared<T, S, P>> for PassSampler<T, S>
-where
-    T::Shared: Sync,
-    S::Shared: Sync,
-{
+impl<C: InCommon + Sync> Task<PassShared<C>> for PassSampler<C::Table, C::Rows> {
     // Where samplers share rows, so that a sampler whose row is slow holds up no other.
-    const ALONE: bool = !S::DEALT;
+    const ALONE: bool = !<C::Rows as Schedule>::DEALT;
 
-    ghost ready = { λ shared job a. MayDraw T.PageTable S.Schedule shared.table shared.rows job.scene.shape job.scene.depth job.scene.path
-        job.picture a };
+    ghost ready = { λ shared job a. MayDraw C.Table.PageTable C.Rows.Schedule (C.InCommon.table shared.parts) (C.InCommon.rows shared.parts)
+        job.scene.shape job.scene.depth job.scene.path job.picture a };
 
-    ghost did = { λ shared job a b. HasDrawn T.PageTable S.Schedule P.Filter shared.table shared.rows job.scene.shape job.scene.depth
-        job.scene.path job.picture job.scene.path.height (row_length job.scene.depth job.scene.path.width) a b };
+    ghost did = { λ shared job a b. HasDrawn C.Table.PageTable C.Rows.Schedule C.Look.Filter (C.InCommon.table shared.parts)
+        (C.InCommon.rows shared.parts) job.scene.shape job.scene.depth job.scene.path job.picture job.scene.path.height
+        (row_length job.scene.depth job.scene.path.width) a b };
 
     fn work<Rt: Threads + Wait, G: Gate>(
         &mut self,
         rt: &Rt,
-        shared: &PassShared<T, S, P>,
+        shared: &PassShared<C>,
         shot: &Shot<'_>,
         _batch: &[Planned],
         gate: &G,
     ) {
-        self.draw::<P, G, Rt>(rt, &shared.table, &shared.rows, shot, gate);
+        self.draw::<C::Look, G, Rt>(rt, shared.parts.table(), shared.parts.rows(), shot, gate);
     }
 }
 
-impl<T: PageTable, S: Schedule, P: Filter + Sync> Task<PassShared<T, S, P>> for PassStreamer<T>
-where
-    T::Shared: Sync,
-    S::Shared: Sync,
-{
-    ghost ready = { λ shared job a. MayStream T.PageTable shared.table shared.queues job.batch a };
+impl<C: InCommon + Sync> Task<PassShared<C>> for PassStreamer<C::Table> {
+    ghost ready = { λ shared job a. MayStream C.Table.PageTable (C.InCommon.table shared.parts) (C.InCommon.queues shared.parts) job.batch a };
 
-    ghost did = { λ shared job a b. HasStreamed T.PageTable shared.table shared.queues job.batch a b };
+    ghost did = { λ shared job a b. HasStreamed C.Table.PageTable (C.InCommon.table shared.parts) (C.InCommon.queues shared.parts) job.batch a b };
 
     fn work<Rt: Threads + Wait, G: Gate>(
         &mut self,
         rt: &Rt,
-        shared: &PassShared<T, S, P>,
+        shared: &PassShared<C>,
         _shot: &Shot<'_>,
         batch: &[Planned],
         gate: &G,
     ) {
-        self.refused = stream_into::<T, Rt, G>(
+        self.refused = stream_into::<C::Table, Rt, G>(
             rt,
-            &shared.table,
+            shared.parts.table(),
             &mut self.writer,
             &self.geometry,
             self.depth,
-            &shared.queues.results,
+            &shared.parts.queues().results,
             &mut self.answers,
             batch,
             &mut self.report,
@@ -71,24 +64,19 @@ where
     }
 }
 
-impl<T: PageTable, S: Schedule, P: Filter + Sync, F: File> Task<PassShared<T, S, P>>
-    for QueuedLoader<F>
-where
-    T::Shared: Sync,
-    S::Shared: Sync,
-{
-    ghost ready = { λ shared job loader. MayLoad F.File shared.queues loader };
+impl<C: InCommon + Sync, F: File> Task<PassShared<C>> for QueuedLoader<F> {
+    ghost ready = { λ shared job loader. MayLoad F.File (C.InCommon.queues shared.parts) loader };
 
-    ghost did = { λ shared job before after. HasLoaded F.File shared.queues before after };
+    ghost did = { λ shared job before after. HasLoaded F.File (C.InCommon.queues shared.parts) before after };
 
     fn work<Rt: Threads + Wait, G: Gate>(
         &mut self,
         rt: &Rt,
-        shared: &PassShared<T, S, P>,
+        shared: &PassShared<C>,
         _shot: &Shot<'_>,
         _batch: &[Planned],
         gate: &G,
     ) {
-        self.run(rt, &shared.queues, gate);
+        self.run(rt, shared.parts.queues(), gate);
     }
 }

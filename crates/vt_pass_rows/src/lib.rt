@@ -6,4 +6,4 @@ mod sampler;
 
 pub use sampler::PassSampler;
 pub use vt_page_table::{FeedbackCounts, Filter, Geometry, PageTable, Path, Planned, Shot, Task};
-pub use vt_schedules::{Dealt, RowJob, Schedule, Shared};
+pub use vt_schedules::{Dealt, Nothing, RowJob, Schedule, Shared};

@@ -1,11 +1,12 @@
 //! Row y is drawn by sampler y modulo their number.
 
-ghost use Rattle.std.specs.Prelude.{◌≡◌, ◌≢◌, ℕ, ◌<◌, ◌^◌, length, reverse, All, IfOk, slice_index_or};
+ghost use Rattle.std.specs.Prelude.{◌≡◌, ◌≢◌, ℕ, ◌<◌, ◌≤◌, ◌^◌, [], length, reverse, All, IfOk, OnOk, slice_index_or};
 ghost use Rattle.vt_definitions.specs.Dealing.{sampler_of, own_count};
 ghost use Rattle.vt_sampler.specs.Samplers.{own_rows};
 ghost use Rattle.vt_schedules.specs.declared.bag.RowJob.{RowJob as Job};
 ghost use Rattle.vt_schedules.specs.SharedRows.{FitsRow, rows_of};
-ghost use Rattle.vt_schedules.specs.Dealt.{AreOwnInPlace};
+ghost use Rattle.vt_schedules.specs.Dealt.{AreOwnInPlace, AreDealt};
+ghost use Rattle.vt_schedules.specs.Rows.{AreRowsInPlace};
 
 use crate::bag::RowJob;
 use crate::jobs::no_row;
@@ -80,6 +81,24 @@ fn deal_rows(
     Ok(own)
 }
 
+impl Dealt {
+    /// Begins the dealing of the rows of a picture as a schedule does. It needs no runtime, since it waits for nobody.
+    pub fn begin_alone(
+        alloc: Global,
+        home: &mut DealtHome,
+        jobs: &mut [RowJob],
+    ) -> Result<(), NoMemory>
+        requires few { length jobs.old < 2 ^ 32 }
+        ensures number { length jobs.new ≡ length jobs.old }
+        ensures home { OnOk result (length home.new.jobs.elements < 2 ^ 32) }
+        ensures dealt { OnOk result ((height line samplers : ℕ) → 1 ≤ samplers → AreRowsInPlace height line jobs.old
+            → AreDealt height line samplers [] home.new.jobs.elements) }
+    {
+        home.jobs = take_rows(alloc, jobs)?;
+        Ok(())
+    }
+}
+
 impl Schedule for Dealt {
     ghost use Rattle.std.specs.Prelude.{true, ◌<◌, ◌^◌, length, All};
     ghost use Rattle.std.proofs.Common.{inr};
@@ -131,8 +150,7 @@ impl Schedule for Dealt {
         home: &mut DealtHome,
         jobs: &mut [RowJob],
     ) -> Result<(), NoMemory> {
-        home.jobs = take_rows(alloc, jobs)?;
-        Ok(())
+        Dealt::begin_alone(alloc, home, jobs)
     }
 
     fn deal(

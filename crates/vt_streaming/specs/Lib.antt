@@ -7,6 +7,7 @@ pub use Rattle.vt_requests.specs.Replays
 pub use Rattle.vt_requests.specs.Rows
 pub use Rattle.vt_requests.specs.Scenes
 pub use Rattle.vt_requests.specs.Streamed
+pub use Rattle.vt_requests.specs.Streams
 pub use Rattle.vt_requests.specs.TakenResults
 pub use Rattle.vt_requests.specs.declared as RequestsTypes
 pub use Rattle.vt_streamer.specs.Banks

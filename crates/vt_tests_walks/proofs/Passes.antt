@@ -20,7 +20,8 @@ use Rattle.vt_machine.specs.Crews.{last_start}
 use Rattle.vt_machine.specs.Machines.{known_bytes}
 use Rattle.vt_machine.specs.Outcomes.{IsEntryFor, IsBatchFor}
 use Rattle.vt_machine.specs.Passes.{MayPlace}
-use Rattle.vt_pass.specs.WorkerPools.{WorkerPoolView, pool_state, IsIdlePool}
+use Rattle.vt_pass.specs.declared.pass_kit.PassKit.{PassKit}
+use Rattle.vt_pass.specs.PassKits.{kit_state, IsIdleKit}
 use Rattle.vt_tests_walks.specs.Placed.{HasPlaced}
 use Rattle.vt_tests_walks.proofs.Placing.{idle_placed}
 
@@ -63,26 +64,26 @@ two_lawful s frames js batch pages frames_are js_are batch_is =
       apart zero (suc (suc k)) d low high = absurd (omega (arith, high))
       apart (suc i) j d low high = absurd (omega (arith, low, high))
 
-module _ {F : Type 0} (g : FileMeanings F) (words : WordsValue) (v : StreamerView) (k : WorkerPoolView F) (tile : List ℕ) (idle : IsIdlePool g words v k)
-    (size : length tile ≡ tile_length k.shape 1) where
+module _ {F : Type 0} (g : FileMeanings F) (words : WordsValue) (v : StreamerView) (k : PassKit F) (tile : List ℕ) (idle : IsIdleKit g words v k)
+    (size : length tile ≡ tile_length k.streams.shape 1) where
   -- bytes for a tile of the pool are a tile of the streamer
   pub is_tile : IsTile v.shape tile
   is_tile = subst (λ (s : Shape). IsTile s tile) (sym idle.fit.shape) (record { depth = 1; lawful = inl refl; full = omega (arith, size) })
 
   -- the root may be placed before all other pages
-  may_place : v.writer.journal ≡ [] → pages_of v.shape ≡ 5 → length v.owners ≡ 3 → k.depth ≡ 1
-      → IfSome (known_bytes g k.stores) (λ b. IsPiece b (tile_start k.shape 1 4) tile) → MayPlace (pool_state g words v.writer.journal k) 4 0 tile
+  may_place : v.writer.journal ≡ [] → pages_of v.shape ≡ 5 → length v.owners ≡ 3 → k.streams.depth ≡ 1
+      → IfSome (known_bytes g k.streams.stores) (λ b. IsPiece b (tile_start k.streams.shape 1 4) tile) → MayPlace (kit_state g words v.writer.journal k) 4 0 tile
   may_place none pages frames depth of_store = record {
     page_inside = subst (λ (s : Shape). 4 < pages_of s) idle.fit.shape (omega (arith, pages));
     frame_inside = (let some = ap (λ (z : Sizes). z.frames) idle.fit.of.sizes in omega (arith, some, frames));
     next = next_at_first v.writer.journal 4 0 none;
     early = subst (λ (js : List Change). length js ≤ last_start) (sym none) (omega arith);
-    size = subst (λ d. length tile ≡ tile_length k.shape d) (sym depth) size;
-    of_store = subst (λ d. IfSome (known_bytes g k.stores) (λ b. IsPiece b (tile_start k.shape d 4) tile)) (sym depth) of_store;
+    size = subst (λ d. length tile ≡ tile_length k.streams.shape d) (sym depth) size;
+    of_store = subst (λ d. IfSome (known_bytes g k.streams.stores) (λ b. IsPiece b (tile_start k.streams.shape d 4) tile)) (sym depth) of_store;
   }
 
   -- and the pool is idle then
-  pub root_placed : (w : StreamerView) → v.writer.journal ≡ [] → pages_of v.shape ≡ 5 → length v.owners ≡ 3 → k.depth ≡ 1
-      → IfSome (known_bytes g k.stores) (λ b. IsPiece b (tile_start k.shape 1 4) tile) → IsStreamerOf words w → HasPlaced v w 4 0 tile → IsIdlePool g words w k
+  pub root_placed : (w : StreamerView) → v.writer.journal ≡ [] → pages_of v.shape ≡ 5 → length v.owners ≡ 3 → k.streams.depth ≡ 1
+      → IfSome (known_bytes g k.streams.stores) (λ b. IsPiece b (tile_start k.streams.shape 1 4) tile) → IsStreamerOf words w → HasPlaced v w 4 0 tile → IsIdleKit g words w k
   root_placed w none pages frames depth of_store of placed =
       idle_placed g words v w k 4 0 tile idle of (may_place none pages frames depth of_store) placed

@@ -14,11 +14,11 @@ use Rattle.vt_page_table.specs.Format.{tile_length}
 use Rattle.vt_page_table.specs.Outcomes.{group_of}
 use Rattle.vt_page_table.specs.Fills.{AreTexelWords, FillsOne, IsStoredPage, AreStoredPages}
 use Rattle.vt_table.specs.Views.{tile_word}
-use Rattle.vt_word_samplers.specs.Fills.{words_in}
+use Rattle.vt_word_notes.specs.Fills.{words_in}
 use Rattle.vt_grace.specs.declared.views.WriterView.{WriterView}
 use Rattle.vt_table.proofs.TileWords.{word_is}
-use Rattle.vt_word_samplers.specs.Made.{HasMade, victim_contents, group_contents}
-use Rattle.vt_word_samplers.specs.Stored.{AreStored}
+use Rattle.vt_word_notes.specs.Made.{HasMade, victim_contents, group_contents}
+use Rattle.vt_word_notes.specs.Stored.{AreStored}
 use Rattle.vt_word_table.specs.WordWriters.{IsMappedWith, HasTakenMore}
 
 -- lists with the same numbers
@@ -145,4 +145,17 @@ stored_contents s d known journal contents some are k page frame there =
       size = is.size;
       of_store = is.of_store;
       words = words_are s d is.tile (get_or contents k []) some (is.size ∙ mul_comm (s.tile * s.tile) (texel_length d)) is.words_of;
+    }
+
+-- and contents of a journal, as pages that were filled
+pub contents_stored : (s : Shape) (d : ℕ) (known : Option (List ℕ)) (journal : List Change) (contents : List (List ℕ)) → 1 ≤ s.tile
+    → AreStored s d known journal contents → AreStoredPages s d known (IsMappedWith journal contents)
+contents_stored s d known journal contents some are page words is =
+    let its = are is.by page is.frame is.change in
+    record {
+      tile = its.tile;
+      size = its.size;
+      of_store = its.of_store;
+      words_of = subst (AreTexelWords d (s.tile * s.tile) its.tile) (sym its.words ∙ is.content)
+          (texel_words s d its.tile some (its.size ∙ mul_comm (s.tile * s.tile) (texel_length d)));
     }

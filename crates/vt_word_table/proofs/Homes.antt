@@ -1,7 +1,8 @@
 -- Readers that are at home, and passes that are given and taken back.
-use Rattle.std.proofs.Common.{◌≡◌, ◌≢◌, ℕ, zero, suc, ◌≤◌, ◌<◌, true, false, Option, None, Some, List, [], ◌∷◌, length, get_or, replicate, refl, sym, ap, ◌∙◌, subst, arith}
+use Rattle.std.proofs.Common.{◌≡◌, ◌≢◌, ℕ, zero, suc, ◌≤◌, ◌<◌, inl, inr, ◌⊎◌, true, false, Option, None, Some, List, [], ◌∷◌, length, get_or, replicate, refl, sym, ap, ◌∙◌, subst, arith}
 use Rattle.std.specs.Prelude.{All, Contains, IsSome, slice_set}
-use Rattle.std.proofs.lemmas.List.{get_or-set_other}
+use Rattle.std.proofs.lemmas.Bool.{cases_lt}
+use Rattle.std.proofs.lemmas.List.{get_or-set_other, get_or_past}
 use Rattle.std.proofs.lemmas.List.Elements.{All-contains, Contains-append_left}
 use Rattle.std.proofs.lemmas.Option.{get_or_from_slice_get, slice_get_within}
 use Rattle.vt_journal.specs.Pages.{root_of}
@@ -19,9 +20,9 @@ use Rattle.vt_sampler.specs.Tokens.{IsPassOf}
 use Rattle.vt_sampler.specs.LookupNotes.{FitsShape, IsNotedIn}
 use Rattle.vt_grace.specs.WriterViews.{is_out, first_writer, after_look, version_of}
 use Rattle.vt_grace.specs.Giving.{after_giving, after_return, new_pass}
-use Rattle.vt_word_samplers.specs.Views.{StreamerView, IsStreamerOf}
+use Rattle.vt_word_notes.specs.Views.{StreamerView, IsStreamerOf}
 use Rattle.vt_grace.specs.Sound.{IsSound, IsSoundReturn}
-use Rattle.vt_word_samplers.specs.Noted.{IsAmong, IsNotedBy}
+use Rattle.vt_word_notes.specs.Noted.{IsAmong, IsNotedBy}
 use Rattle.vt_word_table.specs.declared.table.WordReader.{WordReader}
 use Rattle.vt_word_table.specs.WordReaders.{IsAtHome, HasOwnPass, HeldAt}
 use Rattle.vt_word_table.specs.WordWriters.{HasTakenMore, CameHome, WasBack}
@@ -169,3 +170,32 @@ pub held_among : (o : Option PassValue) (p : PassValue) (version : ℕ) → Held
 held_among None p version was = absurd was
 held_among (Some q) p version was = subst (λ (l : List ℕ). Contains l version) (sym was.held.held)
     (Contains-append_left was.held.more q.view.held version was.held.among)
+
+-- the streamer of words stays so with more room
+pub streamer_still : (words : WordsValue) (v w : StreamerView) → w ≡ record v { spare = w.spare } → IsStreamerOf words v → IsStreamerOf words w
+streamer_still words v w rest of =
+    let t = of.lawful in
+    subst (λ (x : StreamerView). IsStreamerOf words x) (sym rest) (record {
+      table = of.table;
+      seen = of.seen;
+      sizes = of.sizes;
+      limits = of.limits;
+      sound = of.sound;
+      lawful = record {
+        limits = t.limits;
+        some_frame = t.some_frame;
+        few_frames = t.few_frames;
+        legal = t.legal;
+        one_to_one = t.one_to_one;
+        pages_inside = t.pages_inside;
+        frames_inside = t.frames_inside;
+        filled = t.filled;
+      };
+    })
+
+-- where no sampler of a table has a pass, none has
+pub all_in : (w : WriterView) (count : ℕ) → length w.out ≡ count → ((n : ℕ) → n < count → is_out w n ≡ false) → (n : ℕ) → is_out w n ≡ false
+all_in w count number each n = by_case (cases_lt n count) where
+  by_case : (n < count) ⊎ (count ≤ n) → is_out w n ≡ false
+  by_case (inl low) = each n low
+  by_case (inr high) = get_or_past w.out n false (omega (arith, number, high))

@@ -1,2 +1,3 @@
-mod Filling
-mod Homes
+pub use Rattle.vt_word_notes.proofs.Growing
+pub mod Filling
+pub mod Homes

@@ -1,8 +1,9 @@
 pub use Rattle.vt_sampler.specs.GraceTypes
 pub use Rattle.vt_sampler.specs.Values
-pub use Rattle.vt_word_samplers.specs.Noted
-pub use Rattle.vt_word_samplers.specs.Views
-pub use Rattle.vt_word_samplers.specs.WriterViews
+pub use Rattle.vt_word_notes.specs.Noted
+pub use Rattle.vt_word_notes.specs.Stored
+pub use Rattle.vt_word_notes.specs.Views
+pub use Rattle.vt_word_notes.specs.WriterViews
 pub mod WordReaders
 pub mod WordWriters
 pub mod WordLaws

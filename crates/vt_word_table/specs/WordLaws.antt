@@ -11,8 +11,8 @@ use Rattle.vt_sampler.specs.GraceTypes.views.Returned.{Returned}
 use Rattle.vt_sampler.specs.GraceTypes.views.WriterView.{WriterView}
 use Rattle.vt_sampler.specs.Values.{WordsValue, PassValue}
 use Rattle.vt_sampler.proofs.Holding.{none_held, held_then, was_held_then, was_held_now, not_above}
-use Rattle.vt_word_samplers.specs.Noted.{IsNotedBy}
-use Rattle.vt_word_samplers.proofs.Handed.{among_left, among_right}
+use Rattle.vt_word_notes.specs.Noted.{IsNotedBy}
+use Rattle.vt_word_notes.proofs.Handed.{among_left, among_right}
 use Rattle.vt_word_table.specs.WordReaders.{HasOwnPass, HeldRow, HeldRows, HeldAt, EnteredWith, given_of, IsNotedIf}
 use Rattle.vt_word_table.specs.WordWriters.{HasTakenMore, CameHomeIf, WasBack}
 

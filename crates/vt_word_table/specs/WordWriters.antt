@@ -10,7 +10,7 @@ use Rattle.vt_sampler.specs.GraceTypes.views.Returned.{Returned}
 use Rattle.vt_sampler.specs.GraceTypes.views.WriterView.{WriterView}
 use Rattle.vt_sampler.specs.Values.{PassValue}
 use Rattle.vt_sampler.specs.LookupNotes.{IsNotedIn}
-use Rattle.vt_word_samplers.specs.Noted.{IsAmong}
+use Rattle.vt_word_notes.specs.Noted.{IsAmong}
 
 -- a change of a journal mapped the page, and was published with these words
 pub record IsMappedWith (journal : List Change) (contents : List (List ℕ)) (page : ℕ) (words : List ℕ) : Type 0 where

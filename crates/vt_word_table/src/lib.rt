@@ -4,5 +4,5 @@
 
 mod table;
 
-pub use table::{WordReader, WordTable};
+pub use table::{WordReader, WordTable, no_readers};
 pub use vt_sampler::Nearest;

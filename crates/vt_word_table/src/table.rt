@@ -9,7 +9,7 @@ use vt_journal::{Geometry, Journal};
 use vt_outside::{Gate, Items, NoMemory};
 use vt_page_table::{PageTable, Planned, Shot};
 use vt_sampler::{Filter, Pass, Words, draw_held};
-use vt_word_samplers::{Streamer, map_page, put_entry};
+use vt_word_notes::{Streamer, map_page, put_entry};
 
 /// The shared words.
 pub struct WordTable;
@@ -22,8 +22,8 @@ pub struct WordReader {
 
 impl PageTable for WordTable {
     ghost use Rattle.std.specs.Prelude.{◌≡◌, ◌≤◌, length};
-    ghost use Rattle.vt_word_samplers.specs.Views.{IsStreamerOf};
-    ghost use Rattle.vt_word_samplers.specs.Noted.{IsNotedBy};
+    ghost use Rattle.vt_word_notes.specs.Views.{IsStreamerOf};
+    ghost use Rattle.vt_word_notes.specs.Noted.{IsNotedBy};
     ghost use Rattle.vt_word_table.specs.WordReaders.{IsAtHome, HasOwnPass, given_of, IsNotedIf, EnteredWith, HeldRow, HeldRows, HeldAt};
     ghost use Rattle.vt_word_table.specs.WordWriters.{IsMappedWith, HasTakenMore, CameHomeIf, WasBack};
     ghost use Rattle.vt_word_table.specs.WordLaws.{fewer, taken_none, taken_twice, noted_later, back_later, came_within, rows_none_if, rows_more_if, held_now_if, held_then_if, held_since_if, held_rises_if, since_if, same_given_if, said_more_if};
@@ -205,8 +205,8 @@ impl PageTable for WordTable {
     ghost says_more = { λ q r v note one said. said_more_if q.pass r.pass v note one said };
 }
 
-// So many readers without a pass.
-fn no_readers(alloc: Global, samplers: u32) -> Result<Items<WordReader>, NoMemory>
+/// So many readers without a pass.
+pub fn no_readers(alloc: Global, samplers: u32) -> Result<Items<WordReader>, NoMemory>
     ensures number { IfOk result (λ made. length made.elements ≡ samplers) }
     ensures none { IfOk result (λ made. All (λ r. r.pass ≡ None) made.elements) }
 {

@@ -14,7 +14,7 @@ ghost use Rattle.vt_machine.specs.Machines.{known_bytes};
 ghost use Rattle.vt_machine.specs.Outcomes.{IsBatchFor};
 ghost use Rattle.vt_machine.specs.Passes.{IsJobFor};
 ghost use Rattle.vt_tests_walks.specs.Placed.{HasPlaced};
-ghost use Rattle.vt_pass.specs.WorkerPools.{pool_setup, IsIdlePool};
+ghost use Rattle.vt_pass.specs.PassKits.{kit_setup, IsIdleKit};
 
 use crate::cases::{Case, Deed, check};
 use crate::fixtures::{FOUR, HEADER, ONE_PICTURE, ROOT_TILE, TILE_0, TILE_2};
@@ -65,13 +65,13 @@ fn pass<Rt: Threads + Wait + Sync, F: File + Send>(
     shot: &Shot<'_>,
     batch: &Batch,
 ) -> Option<PassReport>
-    requires idle { IsIdlePool F.File words.now streamer.old pool.old.pool }
+    requires idle { IsIdleKit F.File words.now streamer.old pool.old }
     requires lawful { IsBatchFor streamer.old.shape (length streamer.old.owners)
         (newest streamer.old.writer.journal) batch.now.elements }
-    requires few { length batch.now.elements ≤ pool.old.pool.crew.batch }
-    requires job { IsJobFor (pool_setup F.File words.now pool.old.pool) (job_of shot.now []) }
-    ensures idle { IfSome result (λ _. IsIdlePool F.File words.now streamer.new pool.new.pool) }
-    ensures job { IfSome result (λ _. IsJobFor (pool_setup F.File words.now pool.new.pool) (job_of shot.now [])) }
+    requires few { length batch.now.elements ≤ pool.old.streams.crew.batch }
+    requires job { IsJobFor (kit_setup F.File words.now pool.old) (job_of shot.now []) }
+    ensures idle { IfSome result (λ _. IsIdleKit F.File words.now streamer.new pool.new) }
+    ensures job { IfSome result (λ _. IsJobFor (kit_setup F.File words.now pool.new) (job_of shot.now [])) }
 {
     if streamer.journal().version() > 1000
         || streamer.frame_of(root_page(shot.geometry)).is_none()
@@ -93,13 +93,13 @@ fn runs<Rt: Threads + Wait + Sync, F: File + Send>(
     batch: &Batch,
     expected: &Expected<'_>,
 ) -> bool
-    requires idle { IsIdlePool F.File words.now streamer.old pool.old.pool }
+    requires idle { IsIdleKit F.File words.now streamer.old pool.old }
     requires lawful { IsBatchFor streamer.old.shape (length streamer.old.owners)
         (newest streamer.old.writer.journal) batch.now.elements }
-    requires few { length batch.now.elements ≤ pool.old.pool.crew.batch }
-    requires job { IsJobFor (pool_setup F.File words.now pool.old.pool) (job_of shot.now []) }
-    ensures idle { OnTrue result (IsIdlePool F.File words.now streamer.new pool.new.pool) }
-    ensures job { OnTrue result (IsJobFor (pool_setup F.File words.now pool.new.pool) (job_of shot.now [])) }
+    requires few { length batch.now.elements ≤ pool.old.streams.crew.batch }
+    requires job { IsJobFor (kit_setup F.File words.now pool.old) (job_of shot.now []) }
+    ensures idle { OnTrue result (IsIdleKit F.File words.now streamer.new pool.new) }
+    ensures job { OnTrue result (IsJobFor (kit_setup F.File words.now pool.new) (job_of shot.now [])) }
 {
     match pass(rt, pool, words, streamer, shot, batch) {
         Some(report) => {
@@ -163,12 +163,12 @@ fn run_both<Rt: Threads + Wait + Sync, F: File + Send>(
     streamer: &mut Streamer,
     shot: &Shot<'_>,
 ) -> bool
-    requires idle { IsIdlePool F.File words.now streamer.old pool.old.pool }
+    requires idle { IsIdleKit F.File words.now streamer.old pool.old }
     requires journal { streamer.old.writer.journal ≡ MapEntry 4 0 ∷ [] }
     requires pages { pages_of streamer.old.shape ≡ 5 }
     requires frames { length streamer.old.owners ≡ 3 }
-    requires entries { pool.old.pool.crew.batch ≡ 2 }
-    requires job { IsJobFor (pool_setup F.File words.now pool.old.pool) (job_of shot.now []) }
+    requires entries { pool.old.streams.crew.batch ≡ 2 }
+    requires job { IsJobFor (kit_setup F.File words.now pool.old) (job_of shot.now []) }
 {
     let Ok(batch) = two_pages(alloc) else {
         return false;
@@ -188,15 +188,15 @@ fn place_and_run<Rt: Threads + Wait + Sync, F: File + Send>(
     shot: &Shot<'_>,
     tile: &[u8],
 ) -> bool
-    requires idle { IsIdlePool F.File words.now streamer.old pool.old.pool }
+    requires idle { IsIdleKit F.File words.now streamer.old pool.old }
     requires journal { streamer.old.writer.journal ≡ [] }
     requires pages { pages_of streamer.old.shape ≡ 5 }
     requires frames { length streamer.old.owners ≡ 3 }
-    requires entries { pool.old.pool.crew.batch ≡ 2 }
-    requires job { IsJobFor (pool_setup F.File words.now pool.old.pool) (job_of shot.now []) }
-    requires depth { pool.old.pool.depth ≡ 1 }
-    requires size { length tile.now ≡ tile_length pool.old.pool.shape 1 }
-    requires tile { IfSome (known_bytes F.File pool.old.pool.stores) (λ b. IsPiece b (tile_start pool.old.pool.shape 1 4) tile.now) }
+    requires entries { pool.old.streams.crew.batch ≡ 2 }
+    requires job { IsJobFor (kit_setup F.File words.now pool.old) (job_of shot.now []) }
+    requires depth { pool.old.streams.depth ≡ 1 }
+    requires size { length tile.now ≡ tile_length pool.old.streams.shape 1 }
+    requires tile { IfSome (known_bytes F.File pool.old.streams.stores) (λ b. IsPiece b (tile_start pool.old.streams.shape 1 4) tile.now) }
 {
     place(words, streamer, 4, tile) && run_both(rt, alloc, pool, words, streamer, shot)
 }

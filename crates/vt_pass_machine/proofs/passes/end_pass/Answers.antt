@@ -17,18 +17,18 @@ finish-requires-clause-may g c = (_, c.requires.0.samplers, c.requires.1.draw)
 pub returns-clause-ended : goal.returns-clause-ended
 returns-clause-ended g c = λ b may. c.end_round-events.ensures.ended c.args.batch.now.elements b.stream may.stream
 
-pub returns-in_err-rows-clause-ended : goal.returns-in_err-rows-clause-ended
-returns-in_err-rows-clause-ended g c = λ b may. c.end_round-events.ensures.ended c.args.batch.now.elements b.stream may.stream
+pub returns-in_err-lines-clause-ended : goal.returns-in_err-lines-clause-ended
+returns-in_err-lines-clause-ended g c = λ b may. c.end_round-events.ensures.ended c.args.batch.now.elements b.stream may.stream
 
 pub returns-clause-drawn : goal.returns-clause-drawn
-returns-clause-drawn g c = λ b may. c.in_ok-rows.ensures.ended (length (g.T.PageTable.journal b.streamer.writer)) b.samplers may.draw
+returns-clause-drawn g c = λ b may. c.in_ok-lines.ensures.ended (length (g.T.PageTable.journal b.streamer.writer)) b.samplers may.draw
 
 pub returns-then-own-clause-ended : goal.returns-then-own-clause-ended
 returns-then-own-clause-ended g c = λ b may. c.end_round-events.ensures.ended c.args.batch.now.elements b.stream may.stream
 
 pub returns-then-own-clause-still : goal.returns-then-own-clause-still
 returns-then-own-clause-still g c =
-    still_none g.T.PageTable c.args.shared.now.table g.met.T.PageTable.later_none c.args.own.now.writer c.requires.1.fed.of
+    still_none g.T.PageTable c.args.table.now g.met.T.PageTable.later_none c.args.own.now.writer c.requires.1.fed.of
 
 pub returns-then-not-is_sound-clause-ended : goal.returns-then-not-is_sound-clause-ended
 returns-then-not-is_sound-clause-ended g c = λ b may. c.end_round-events.ensures.ended c.args.batch.now.elements b.stream may.stream

@@ -5,6 +5,6 @@ use Rattle.vt_pass_machine.proofs.machine.MachinePassMachine.journal.Goals as go
 pub unreachable-requires : goal.unreachable-requires
 unreachable-requires g c =
     let m = c.args.self.now in
-    part_is_there (λ t. IsIdleBy g.F.File g.T.PageTable m.shared.table t m.streams m.pool)
-    (λ t. IsReadyBy g.F.File g.T.PageTable g.S.Schedule m.shared.table m.shared.rows m.shared.queues t m.streams m.pool) m.streamer c.in-None.is
+    part_is_there (λ t. IsIdleBy g.F.File g.T.PageTable m.shared.parts.table t m.streams m.pool)
+    (λ t. IsReadyBy g.F.File g.T.PageTable g.S.Schedule m.shared.parts.table m.shared.parts.rows m.shared.parts.queues t m.streams m.pool) m.streamer c.in-None.is
     (λ no. no) (λ batch no. no) c.requires

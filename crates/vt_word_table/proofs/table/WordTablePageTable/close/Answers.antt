@@ -1,6 +1,6 @@
 use Rattle.std.proofs.Common.{◌≡◌, Option, Some, sym, ap, ◌∙◌, subst}
 use Rattle.std.proofs.lemmas.Option.{same_Some}
-use Rattle.vt_word_samplers.specs.Views.{StreamerView}
+use Rattle.vt_word_notes.specs.Views.{StreamerView}
 use Rattle.vt_sampler.specs.Values.{PassValue}
 use Rattle.vt_word_table.specs.WordReaders.{IsNotedIf, HeldAt}
 use Rattle.vt_word_table.specs.WordWriters.{CameHomeIf}

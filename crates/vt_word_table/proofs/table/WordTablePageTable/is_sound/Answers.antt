@@ -1,5 +1,5 @@
 use Rattle.std.proofs.Common.{◌≤◌, Some, arith}
-use Rattle.vt_word_samplers.proofs.Replayed.{notes_true}
+use Rattle.vt_word_notes.proofs.Replayed.{notes_true}
 use Rattle.vt_word_table.proofs.Filling.{stored_contents}
 use Rattle.vt_word_table.proofs.table.WordTablePageTable.is_sound.Goals as goal
 

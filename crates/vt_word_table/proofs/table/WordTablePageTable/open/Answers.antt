@@ -1,5 +1,5 @@
 use Rattle.std.proofs.Common.{ap}
-use Rattle.vt_word_samplers.specs.Views.{StreamerView}
+use Rattle.vt_word_notes.specs.Views.{StreamerView}
 use Rattle.vt_word_table.proofs.Homes.{given_taken}
 use Rattle.vt_word_table.proofs.table.WordTablePageTable.open.Goals as goal
 

@@ -1,5 +1,0 @@
-use Rattle.vt_pass_machines.proofs.NewRows.{words_rows}
-use Rattle.vt_pass_machines.proofs.laws.rows_of_words_were_held.Goals as goal
-
-pub returns : goal.returns
-returns g c = words_rows g.F.File g.S.Schedule g.P.Filter

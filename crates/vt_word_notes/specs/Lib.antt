@@ -1,0 +1,9 @@
+pub use Rattle.vt_streaming.specs.Banks
+pub use Rattle.vt_streaming.specs.Fills
+pub use Rattle.vt_streaming.specs.Looks
+pub use Rattle.vt_streaming.specs.Made
+pub use Rattle.vt_streaming.specs.Streams
+pub use Rattle.vt_streaming.specs.Views
+pub use Rattle.vt_streaming.specs.WriterViews
+pub mod Noted
+pub mod Stored

@@ -1,6 +1,0 @@
-use Rattle.vt_word_samplers.proofs.Replayed.{row_replayed}
-use Rattle.vt_word_samplers.proofs.laws.noted_rows_are_replayed.Goals as goal
-
-pub returns : goal.returns
-returns g c = λ w s d b scene version i n y bytes sound limits store are same deep.
-    row_replayed g.P.Filter.shown g.P.Filter.under g.met.P.Filter.is_under w s d b sound limits store are scene same deep version i n y bytes
