@@ -9,6 +9,6 @@ pub use passes::{begin_pass, end_pass};
 pub use vt_loading::PassMachine;
 pub use vt_outside::File;
 pub use vt_pass_pool::{
-    Dealt, FeedbackCounts, Filter, Geometry, Nothing, PageTable, PassPool, PassSampler, PassStreamer,
-    Path, Schedule, Shared, Shot,
+    Dealt, FeedbackCounts, Filter, Geometry, Nothing, PageTable, PassPool, PassSampler,
+    PassStreamer, Path, Schedule, Shared, Shot,
 };

@@ -14,8 +14,8 @@ use vt_load::{QueuedLoader, Stores};
 use vt_loading::{Batch, Crew, LoaderPool, PassMachine, PassReport, blank_report, new_queues};
 use vt_outside::{File, Gate, Items, NoMemory};
 use vt_pass_pool::{
-    FeedbackCounts as Counts, Filter, Geometry, Journal, OwnParts, PageTable, PassPool, PassSampler,
-    PassShared, PassStreamer, Path, Schedule, Shot,
+    FeedbackCounts as Counts, Filter, Geometry, Journal, OwnParts, PageTable, PassPool,
+    PassSampler, PassShared, PassStreamer, Path, Schedule, Shot,
 };
 
 /// A machine that draws the rows of a picture by a filter from a page table, as a schedule says which sampler draws which row, and that streams
@@ -175,7 +175,9 @@ where
         let own = mem::replace(&mut self.streamer, None);
         match own {
             Some(mut own) => {
-                let loaders = self.streams.detach(&self.shared.parts.queues, &mut own.answers);
+                let loaders = self
+                    .streams
+                    .detach(&self.shared.parts.queues, &mut own.answers);
                 let samplers = self.pool.detach();
                 (loaders, samplers, own)
             }

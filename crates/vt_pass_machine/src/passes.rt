@@ -215,19 +215,11 @@ pub fn end_pass<Rt: Threads + Wait, F: File, T: PageTable, S: Schedule, P: Filte
     ensures refused { OnErr result T.refuses }
     ensures emptied { AreEmptied queues.now streams.new.round.asks own.new.answers }
 {
-    let (events, losses) =
-        streams.end_round(queues, loaders, &mut own.answers, &mut own.report);
+    let (events, losses) = streams.end_round(queues, loaders, &mut own.answers, &mut own.report);
     if own.refused {
         return Err(NoMemory);
     }
-    let lines = pool.finish::<P, Rt>(
-        rt,
-        table,
-        rows,
-        &mut own.writer,
-        samplers,
-        shot,
-    )?;
+    let lines = pool.finish::<P, Rt>(rt, table, rows, &mut own.writer, samplers, shot)?;
     if !T::is_sound(table, &own.writer) {
         return Err(NoMemory);
     }

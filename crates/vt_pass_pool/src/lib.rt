@@ -16,6 +16,7 @@ pub use pool::PassPool;
 pub use shared::{InCommon, LentParts, OwnParts, PassShared, PassStreamer};
 pub use vt_journal::{Geometry, Journal};
 pub use vt_pass_rows::{
-    Dealt, FeedbackCounts, Filter, Nothing, PageTable, PassSampler, Path, RowJob, Schedule, Shared, Shot,
+    Dealt, FeedbackCounts, Filter, Nothing, PageTable, PassSampler, Path, RowJob, Schedule, Shared,
+    Shot,
 };
 pub use vt_pass_stream::StreamReport;

@@ -26,8 +26,8 @@ use vt_definitions::texel_length;
 use vt_journal::{Geometry, RowLines};
 use vt_outside::{Items, NoMemory};
 use vt_pass_rows::{
-    Dealt, FeedbackCounts as Counts, Filter, Nothing, PageTable, PassSampler, Path, RowJob, Schedule,
-    Shot,
+    Dealt, FeedbackCounts as Counts, Filter, Nothing, PageTable, PassSampler, Path, RowJob,
+    Schedule, Shot,
 };
 
 /// What the samplers of a machine work with: the samplers, the rows of the last picture, and room for what a pass tells of them.
@@ -250,12 +250,7 @@ impl<T: PageTable> PassPool<T, Dealt> {
     {
         self.lines.reserve(u64::from(self.height))?;
         let mut fresh = blank_rows(self.alloc, self.width, self.height, self.depth)?;
-        Dealt::begin_alone(
-            self.alloc,
-            &mut self.home,
-            fresh.slice_mut(),
-            self.count,
-        )?;
+        Dealt::begin_alone(self.alloc, &mut self.home, fresh.slice_mut(), self.count)?;
         self.deal(rows)
     }
 }

@@ -1,4 +1,4 @@
-use Rattle.std.proofs.Common.{◌*◌, List, length, refl, sym, ap, ◌∙◌, subst, arith}
+use Rattle.std.proofs.Common.{◌*◌, List, refl, sym, ap, subst, arith}
 use Rattle.std.specs.Prelude.{IsSome}
 use Rattle.vt_load.specs.Shape.{Shape}
 use Rattle.vt_pass_pool.specs.Pages.{root_of}
@@ -22,8 +22,7 @@ prepare-requires-2 g c = record { idle = (c.args.own.now.writer, c.requires.idle
 pub begin_pass-requires-clause-prepared : goal.begin_pass-requires-clause-prepared
 begin_pass-requires-clause-prepared g c =
     let made = c.make_room.ensures in
-    let w = c.make_room.new.writer in
-    (
+    let w = c.make_room.new.writer in (
       c.prepare-2.new.rows,
       prepared_once g.F.File g.T.PageTable g.S.Schedule c.args.table.now c.prepare-2.new.rows _ c.args.own.now _ c.args.streams.now c.prepare.new.self
           c.args.pool.now c.prepare-2.new.self c.args.batch.now.elements c.requires.idle c.requires.lawful made.still refl refl
