@@ -1,39 +1,35 @@
 -- A kit with words and their streamer, between passes and prepared for one.
-use Rattle.std.proofs.Common.{◌≡◌, ℕ, zero, suc, ◌*◌, ◌<◌, ◌≤◌, false, List, [], ◌∷◌, length, None, Some, Option, Result, refl, sym, ap, ◌∙◌, subst, arith}
-use Rattle.std.specs.Prelude.{slice_get, OnOk}
+use Rattle.std.proofs.Common.{◌≡◌, ℕ, zero, suc, ◌*◌, ◌<◌, ◌≤◌, List, [], ◌∷◌, length, Some, Option, refl, sym, ap, ◌∙◌, subst, arith}
+use Rattle.std.specs.Prelude.{slice_get}
 use Rattle.std.proofs.lemmas.Option.{slice_get_within}
 use Rattle.vt_outside.specs.declared.outside.File.{Ghosts as FileMeanings}
 use Rattle.vt_load.specs.Shape.{Shape}
-use Rattle.vt_load.specs.declared.queued.Queues.{Queues}
 use Rattle.vt_pass_machine.specs.Pages.{IsWithinLimits}
-use Rattle.vt_pass_machine.specs.JournalTypes.changes.Change.{Change}
 use Rattle.vt_pass_machine.specs.Changes.{newest}
 use Rattle.vt_pass_machine.specs.SchedulesRows.{AreRowsInPlace}
-use Rattle.vt_pass_machine.specs.Pools.{IsPool, IsIdlePool as IsIdleSamplers, IsDealtPool, line_length}
+use Rattle.vt_pass_machine.specs.Pools.{IsIdlePool as IsIdleSamplers, IsDealtPool, line_length}
 use Rattle.vt_pass_machine.specs.Stills.{IsStill}
 use Rattle.vt_loading.specs.PlanTypes.batches.Planned.{Planned}
 use Rattle.vt_loading.specs.MachineTypes.crew.Crew.{Crew}
 use Rattle.vt_loading.specs.Machines.{known_bytes}
 use Rattle.vt_loading.specs.Outcomes.{IsBatchFor}
-use Rattle.vt_loading.specs.LoaderPools.{LoaderPoolView, IsLoaderPool, IsPreparedStream, IsSameStream}
+use Rattle.vt_loading.specs.LoaderPools.{IsPreparedStream}
 use Rattle.vt_loading.proofs.StoreRooms.{known_same}
 use Rattle.vt_word_table.specs.GraceTypes.sizes.Sizes.{Sizes}
 use Rattle.vt_word_table.specs.WriterViews.{is_out}
 use Rattle.vt_word_table.specs.Values.{WordsValue}
-use Rattle.vt_word_table.specs.Views.{StreamerView, IsStreamerOf}
+use Rattle.vt_word_table.specs.Views.{StreamerView}
 use Rattle.vt_word_table.specs.Stored.{AreStored}
-use Rattle.vt_word_table.specs.WordReaders.{IsAtHome}
 use Rattle.vt_word_table.specs.WordWriters.{IsMappedWith, HasTakenMore}
 use Rattle.vt_word_table.specs.WordLaws.{taken_none}
 use Rattle.vt_word_table.specs.contracts.table.WordTablePageTable.TheImpl as word
 use Rattle.vt_schedules.specs.contracts.dealt.DealtSchedule.TheImpl as dealt
 use Rattle.vt_word_table.proofs.Filling.{stored_contents, contents_stored}
 use Rattle.vt_word_table.proofs.Homes.{streamer_still, all_in}
-use Rattle.vt_pass_machine.specs.Machines.{Agree, IsIdle, IsPrepared}
-use Rattle.vt_pass_machine.proofs.Preparing.{prepared_once}
+use Rattle.vt_pass_machine.specs.Machines.{Agree, IsIdle}
 use Rattle.vt_pass.specs.declared.pass_kit.PassKit.{PassKit}
-use Rattle.vt_pass.specs.WordPools.{WordSampler, WordPool, WordStreamer, HaveNoPass}
-use Rattle.vt_pass.specs.PassKits.{IsWholeKit, IsFitKit, IsIdleKit, IsPreparedFor, IsSameKit, AreAllIn, with_writer}
+use Rattle.vt_pass.specs.WordPools.{WordSampler, WordStreamer}
+use Rattle.vt_pass.specs.PassKits.{IsFitKit, IsIdleKit, IsPreparedFor, IsSameKit, AreAllIn, with_writer}
 
 -- what is at a place of a list
 there : {X : Type 0} (xs : List X) (n : ℕ) → n < length xs → (x : X) × (slice_get xs n ≡ Some x)

@@ -1,24 +1,18 @@
 -- The rows of a pass over shared words came in it, by what its machine says of them.
-use Rattle.std.proofs.Common.{◌≡◌, ℕ, ◌≤◌, Option, None, Some, List, [], ◌∷◌, length, refl, sym, ap, ◌∙◌, subst, arith}
+use Rattle.std.proofs.Common.{◌≡◌, ℕ, ◌≤◌, Option, None, Some, List, [], ◌∷◌, length, refl, sym, ◌∙◌, subst, arith}
 use Rattle.std.specs.Prelude.{slice_get, slice_index_or, Contains}
 use Rattle.std.proofs.lemmas.List.{append_cancel_right}
 use Rattle.std.proofs.lemmas.List.Elements.{Contains-append_left}
 use Rattle.vt_pass_machine.specs.OutsideTypes.outside.File.{Ghosts as FileMeanings}
-use Rattle.vt_pass_machine.specs.Lists.{ListView}
-use Rattle.vt_pass_machine.specs.Shape.{Shape}
-use Rattle.vt_pass_machine.specs.Paths.{PathView}
 use Rattle.vt_pass_machine.specs.Shots.{shot_row}
-use Rattle.vt_pass_machine.specs.Evidence.{AreShown}
 use Rattle.vt_pass_machine.specs.DrawLookups.{Note}
 use Rattle.vt_pass_machine.specs.Jobs.{Job}
 use Rattle.vt_pass_machine.specs.PlanTypes.batches.Planned.{Planned}
 use Rattle.vt_pass_machine.specs.JournalTypes.changes.RowLine.{RowLine}
 use Rattle.vt_pass_machine.specs.PicturesTypes.filters.Filter.{Ghosts as FilterMeanings}
-use Rattle.vt_pass_machine.specs.PageTableTypes.table.PageTable.{Ghosts as TableMeanings}
 use Rattle.vt_pass_machine.specs.SchedulesTypes.schedule.Schedule.{Ghosts as ScheduleMeanings}
 use Rattle.vt_pass_machine.specs.PassRowsTypes.sampler.PassSampler.{PassSampler}
 use Rattle.vt_pass_machine.specs.PassPoolTypes.pool.PassPool.{PassPool}
-use Rattle.vt_pass_machine.specs.PassPoolTypes.shared.PassStreamer.{PassStreamer}
 use Rattle.vt_pass_machine.specs.Placing.{bytes_of}
 use Rattle.vt_pass_machine.specs.Ended.{IsHeldRow}
 use Rattle.vt_pass_machine.specs.Machines.{IsReadyBy, held_by, OfWriters}

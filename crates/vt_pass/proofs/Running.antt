@@ -1,5 +1,5 @@
 -- A pass over words that are lent: with them a kit is a machine, so that what its workers did is a pass.
-use Rattle.std.proofs.Common.{◌≡◌, false, Option, None, Some, List, length, Result, Ok, Err, refl, subst}
+use Rattle.std.proofs.Common.{◌≡◌, Option, None, Some, List, length, Result, Ok, Err, refl, subst}
 use Rattle.std.specs.Prelude.{IfOk}
 use Rattle.vt_outside.specs.declared.outside.File.{Ghosts as FileMeanings}
 use Rattle.vt_outside.specs.declared.answers.NoMemory.{NoMemory}
@@ -26,7 +26,7 @@ use Rattle.vt_word_table.specs.declared.table.WordReader.{WordReader}
 use Rattle.vt_word_table.specs.contracts.table.WordTablePageTable.TheImpl as word
 use Rattle.vt_schedules.specs.contracts.dealt.DealtSchedule.TheImpl as dealt
 use Rattle.vt_pass_machine.specs.declared.machine.Machine.{Machine}
-use Rattle.vt_pass_machine.specs.Machines.{setup_by, state_by, drawing_by_turns, drawn_by, held_from, IsIdle, IsReady, IsDetached, Begun, MayFinish, MayFinishOut}
+use Rattle.vt_pass_machine.specs.Machines.{setup_by, state_by, drawing_by_turns, drawn_by, held_from, IsIdle, IsReady, IsDetached, Begun, MayFinish}
 use Rattle.vt_pass_machine.specs.Laws.{come_back, has_ended}
 use Rattle.vt_pass.specs.WordPools.{WordSampler, WordPool, WordStreamer}
 use Rattle.vt_pass.specs.Runs.{HasRunLent}

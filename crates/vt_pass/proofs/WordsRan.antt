@@ -1,6 +1,6 @@
 -- A pass of a kit, said of its words.
-use Rattle.std.proofs.Common.{◌≡◌, ℕ, ◌≤◌, Option, Some, List, [], length, refl, sym, ap, ◌∙◌, subst, arith}
-use Rattle.std.specs.Prelude.{slice_get, slice_index_or, IsSome}
+use Rattle.std.proofs.Common.{◌≡◌, ℕ, ◌≤◌, Some, List, [], length, refl, sym, ap, ◌∙◌, subst}
+use Rattle.std.specs.Prelude.{slice_index_or, IsSome}
 use Rattle.vt_outside.specs.declared.outside.File.{Ghosts as FileMeanings}
 use Rattle.vt_load.specs.Shape.{Shape}
 use Rattle.vt_pass_machine.specs.Pages.{root_of}
@@ -14,7 +14,6 @@ use Rattle.vt_pass_machine.specs.JournalTypes.changes.RowLine.{RowLine}
 use Rattle.vt_pass_machine.specs.Changes.{newest}
 use Rattle.vt_pass_machine.specs.Placing.{bytes_of}
 use Rattle.vt_pass_machine.specs.Stills.{IsStill}
-use Rattle.vt_pass_machine.specs.Ended.{IsHeldRow}
 use Rattle.vt_load.specs.declared.queued.Queues.{Queues}
 use Rattle.vt_loading.specs.PlanTypes.batches.Planned.{Planned}
 use Rattle.vt_loading.specs.MachineTypes.crew.Crew.{Crew}
@@ -22,7 +21,7 @@ use Rattle.vt_loading.specs.MachineTypes.crew.PassReport.{PassReport}
 use Rattle.vt_loading.specs.Jobs.{Job}
 use Rattle.vt_loading.specs.Drawings.{drawing_of}
 use Rattle.vt_loading.specs.Machines.{MachineState, Setup, files_of, known_bytes}
-use Rattle.vt_loading.specs.Passes.{MapsRoot, IsJobFor, IsPictured, Ran}
+use Rattle.vt_loading.specs.Passes.{MapsRoot, IsJobFor, Ran}
 use Rattle.vt_loading.specs.LoaderPools.{LoaderPoolView}
 use Rattle.vt_word_table.specs.GraceTypes.sizes.Sizes.{Sizes}
 use Rattle.vt_word_table.specs.Noted.{IsNotedBy}
@@ -32,12 +31,12 @@ use Rattle.vt_word_table.specs.WordLaws.{taken_none, came_within}
 use Rattle.vt_word_table.specs.contracts.table.WordTablePageTable.TheImpl as word
 use Rattle.vt_schedules.specs.contracts.dealt.DealtSchedule.TheImpl as dealt
 use Rattle.vt_pass_machine.specs.SchedulesTypes.dealt.Nothing.{Nothing}
-use Rattle.vt_pass_machine.specs.Machines.{setup_by, state_by, drawing_by_turns, drawn_by, held_from, IsIdle, IsPrepared, IsReady}
+use Rattle.vt_pass_machine.specs.Machines.{setup_by, state_by, drawing_by_turns, drawn_by, held_from, IsIdle, IsReady}
 use Rattle.vt_pass.specs.NewRows.{AreNewRows}
 use Rattle.vt_pass.proofs.NewRows.{new_rows}
 use Rattle.vt_pass.specs.declared.pass_kit.PassKit.{PassKit}
-use Rattle.vt_pass.specs.WordPools.{WordSampler, WordPool, WordStreamer}
-use Rattle.vt_pass.specs.PassKits.{IsFitKit, IsIdleKit, IsPreparedFor, KitRan, kit_setup, kit_state, kit_drawn, kit_rows, with_writer}
+use Rattle.vt_pass.specs.WordPools.{WordPool, WordStreamer}
+use Rattle.vt_pass.specs.PassKits.{IsPreparedFor, KitRan, kit_setup, kit_state, kit_drawn, kit_rows}
 
 -- the samplers of a prepared pass were given their passes, and its requests were put
 module _ {F : Type 0} (g : FileMeanings F) (words : WordsValue) (own t : WordStreamer) (k l : LoaderPoolView F) (r s : WordPool)

@@ -1,5 +1,5 @@
 -- Readers that were closed, one after another.
-use Rattle.std.proofs.Common.{◌≡◌, ℕ, ◌≤◌, length, sym, ap, subst}
+use Rattle.std.proofs.Common.{ℕ, ◌≤◌, length, sym, ap, subst}
 use Rattle.vt_pass_rows.specs.DrawLookups.{Note}
 use Rattle.vt_pass_rows.specs.PageTableTypes.table.PageTable.{Ghosts as TableMeanings}
 use Rattle.vt_pass_rows.specs.declared.sampler.PassSampler.{PassSampler}

@@ -1,6 +1,6 @@
 -- What the samplers of a machine have drawn, once they are home and their rows in their places.
-use Rattle.std.proofs.Common.{◌≡◌, ℕ, suc, ◌^◌, ◌+◌, ◌<◌, ◌≤◌, Bool, List, [], ◌∷◌, ◌++◌, length, get_or, map, Some, refl, sym, ap, ◌∙◌, subst, arith}
-use Rattle.std.specs.Prelude.{slice_get, slice_index, sum_by, All, Contains, IsTrue, IsPermutation}
+use Rattle.std.proofs.Common.{◌≡◌, ℕ, suc, ◌^◌, ◌<◌, List, [], ◌∷◌, length, get_or, Some, refl, sym, ap, ◌∙◌, subst, arith}
+use Rattle.std.specs.Prelude.{slice_get, slice_index, All, Contains, IsTrue, IsPermutation}
 use Rattle.std.specs.List.{concat, range_with_len}
 use Rattle.std.proofs.lemmas.List.{length-map}
 use Rattle.std.proofs.lemmas.List.Elements.{All-contains}
@@ -14,7 +14,6 @@ use Rattle.vt_pass_rows.specs.Paths.{PathView, ArePictureSides}
 use Rattle.vt_pass_rows.specs.Rows.{RowView}
 use Rattle.vt_pass_rows.specs.Shots.{shot_row, wants_in_rows}
 use Rattle.vt_pass_rows.specs.Scenes.{Scene}
-use Rattle.vt_journal.specs.declared.changes.RowLine.{RowLine}
 use Rattle.vt_pass_rows.specs.PicturesTypes.filters.Filter.{Ghosts as FilterMeanings}
 use Rattle.vt_pass_rows.specs.FilterLaws.{WantsFew, picture_wants}
 use Rattle.vt_pass_rows.specs.Evidence.{AreShown}
@@ -30,10 +29,10 @@ use Rattle.vt_pass_rows.specs.declared.sampler.PassSampler.{PassSampler}
 use Rattle.vt_pass_rows.specs.DrawnRows.{IsDrawnRow}
 use Rattle.vt_pass_rows.specs.PassSamplers.{HasDrawn}
 use Rattle.vt_pass_pool.specs.declared.pool.PassPool.{PassPool}
-use Rattle.vt_pass_pool.specs.Placing.{ArePlaced, all_kept, rows_kept, counted_by, line_of, RiseBySampler}
+use Rattle.vt_pass_pool.specs.Placing.{ArePlaced, all_kept, rows_kept, counted_by, RiseBySampler}
 use Rattle.vt_pass_pool.specs.Pools.{IsSampler, AreSamplers, AreSameSamplers, line_length, ways_of}
 use Rattle.vt_pass_pool.specs.Returned.{AreOut, IsClosed, AreClosed, HaveTaken, MayCount}
-use Rattle.vt_pass_pool.specs.Ended.{MayEnd, WasDrawn, IsHeldRow, IsRowOfPass}
+use Rattle.vt_pass_pool.specs.Ended.{MayEnd, IsRowOfPass}
 use Rattle.vt_pass_pool.proofs.Listed.{made_of, made_at, contained_at}
 use Rattle.vt_pass_pool.proofs.Placement.{numbers_are, kept_by, placed_own}
 use Rattle.vt_pass_pool.proofs.Rising.{rising_pair}

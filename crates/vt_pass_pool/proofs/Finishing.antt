@@ -1,6 +1,6 @@
 -- A pool whose samplers were lent, and are home.
-use Rattle.std.proofs.Common.{◌≡◌, ℕ, ◌<◌, List, [], length, Result, Ok, Err, sym, ap, ◌∙◌, subst}
-use Rattle.std.specs.Prelude.{slice_index, IfOk, OnOk}
+use Rattle.std.proofs.Common.{◌≡◌, ℕ, ◌<◌, List, [], length, sym, ◌∙◌, subst}
+use Rattle.std.specs.Prelude.{slice_index}
 use Rattle.vt_outside.specs.Lists.{ListView}
 use Rattle.vt_pass_rows.specs.Scenes.{Scene}
 use Rattle.vt_journal.specs.declared.changes.RowLine.{RowLine}

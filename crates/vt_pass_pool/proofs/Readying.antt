@@ -1,5 +1,5 @@
 -- A pool whose samplers were lent, and are made ready for a pass.
-use Rattle.std.proofs.Common.{◌≡◌, ℕ, suc, ◌<◌, ◌≤◌, List, [], ◌∷◌, length, map, get_or, Some, Result, Ok, Err, refl, sym, ap, ◌∙◌, subst, arith}
+use Rattle.std.proofs.Common.{◌≡◌, ℕ, suc, ◌≤◌, List, [], ◌∷◌, length, map, get_or, Some, Result, Ok, Err, refl, sym, ap, ◌∙◌, subst, arith}
 use Rattle.std.specs.Prelude.{slice_get, OnOk}
 use Rattle.std.proofs.lemmas.Option.{slice_get_within, slice_get-get_or}
 use Rattle.vt_outside.specs.Lists.{ListView}
@@ -8,11 +8,10 @@ use Rattle.vt_journal.specs.Shape.{Shape}
 use Rattle.vt_pass_rows.specs.PageTableTypes.table.PageTable.{Ghosts as TableMeanings}
 use Rattle.vt_pass_rows.specs.SchedulesTypes.bag.RowJob.{RowJob}
 use Rattle.vt_pass_rows.specs.SchedulesTypes.schedule.Schedule.{Ghosts as ScheduleMeanings}
-use Rattle.vt_pass_rows.specs.SchedulesRows.{AreRowsInPlace}
 use Rattle.vt_pass_rows.specs.declared.sampler.PassSampler.{PassSampler}
 use Rattle.vt_journal.specs.declared.changes.RowLine.{RowLine}
 use Rattle.vt_pass_pool.specs.declared.pool.PassPool.{PassPool}
-use Rattle.vt_pass_pool.specs.Pools.{AreSamplers, AreSameSamplers, HaveSameReaders, HaveWays, AreOpened, AreReady, AreAtHome, IsPool, IsIdlePool, IsDealtPool, IsReadyPool, line_length, ways_of}
+use Rattle.vt_pass_pool.specs.Pools.{AreSamplers, AreSameSamplers, HaveSameReaders, HaveWays, AreOpened, AreReady, AreAtHome, IsPool, IsDealtPool, IsReadyPool, line_length, ways_of}
 use Rattle.vt_pass_pool.proofs.SameSamplers.{same_samplers}
 
 -- what follows from what holds if a call answered

@@ -1,5 +1,5 @@
 -- Writers that make no change, one after another.
-use Rattle.std.proofs.Common.{◌≡◌, refl, ◌∙◌}
+use Rattle.std.proofs.Common.{refl, ◌∙◌}
 use Rattle.vt_pass_rows.specs.PageTableTypes.table.PageTable.{Ghosts as TableMeanings}
 use Rattle.vt_pass_pool.specs.Stills.{IsStill}
 

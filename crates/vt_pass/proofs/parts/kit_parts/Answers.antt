@@ -1,4 +1,3 @@
-use Rattle.std.proofs.Common.{None}
 use Rattle.vt_word_table.specs.Views.{StreamerView}
 use Rattle.vt_grace.specs.Sizes.{sizes_of}
 use Rattle.vt_grace.specs.WriterViews.{first_writer}

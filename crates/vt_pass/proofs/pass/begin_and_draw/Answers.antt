@@ -1,4 +1,4 @@
-use Rattle.std.proofs.Common.{◌≡◌, ◌≤◌, length, ap, ◌∙◌, arith}
+use Rattle.std.proofs.Common.{ap, arith}
 use Rattle.vt_loading.specs.Jobs.{job_of}
 use Rattle.vt_pass.specs.WordPools.{WordPool}
 use Rattle.vt_pass.proofs.WordsRan.{begun_job, begun_ran, begun_rows}

@@ -1,10 +1,8 @@
-use Rattle.std.proofs.Common.{Some, refl, length}
+use Rattle.std.proofs.Common.{Some, refl}
 use Rattle.vt_loading.specs.Jobs.{job_of}
-use Rattle.vt_loading.specs.LoaderPools.{stream_before}
 use Rattle.vt_word_table.specs.WordLaws.{taken_none, came_within}
 use Rattle.vt_word_table.specs.contracts.table.WordTablePageTable.TheImpl as word
 use Rattle.vt_schedules.specs.contracts.dealt.DealtSchedule.TheImpl as dealt
-use Rattle.vt_pass_machine.specs.Machines.{state_by}
 use Rattle.vt_pass_machine.proofs.Finishing.{finished}
 use Rattle.vt_pass.proofs.Running.{told}
 use Rattle.vt_pass.proofs.pass.end_lent.Goals as goal

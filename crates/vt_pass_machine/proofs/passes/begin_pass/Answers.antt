@@ -1,5 +1,4 @@
-use Rattle.std.proofs.Common.{◌<◌, List, length, get_or, refl, sym, ap, ◌∙◌, subst}
-use Rattle.std.specs.Prelude.{IsSome}
+use Rattle.std.proofs.Common.{◌<◌, get_or, refl, sym, ◌∙◌, subst}
 use Rattle.vt_load.specs.Shape.{Shape}
 use Rattle.vt_pass_pool.specs.Pages.{pages_of}
 use Rattle.vt_pass_machine.proofs.Preparing.{ready_once}

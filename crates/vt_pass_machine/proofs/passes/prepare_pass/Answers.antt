@@ -1,4 +1,4 @@
-use Rattle.std.proofs.Common.{◌*◌, List, length, refl, sym, ap, ◌∙◌, subst, arith}
+use Rattle.std.proofs.Common.{◌*◌, List, refl, sym, ap, subst, arith}
 use Rattle.std.specs.Prelude.{IsSome}
 use Rattle.vt_load.specs.Shape.{Shape}
 use Rattle.vt_pass_pool.specs.Pages.{root_of}

@@ -1,4 +1,4 @@
-use Rattle.std.proofs.Common.{◌≡◌, ℕ, ◌<◌, ◌≤◌, List, [], Some, length, take}
+use Rattle.std.proofs.Common.{◌≡◌, ℕ, ◌<◌, ◌≤◌, [], Some, length, take}
 use Rattle.std.specs.Prelude.{slice_get}
 use Rattle.vt_pass_pool.specs.Pools.{IsSameSampler, HasWay, ways_of}
 use Rattle.vt_pass_pool.proofs.dealing.deal_samplers.Given as goal

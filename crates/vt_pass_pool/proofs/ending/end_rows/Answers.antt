@@ -1,4 +1,4 @@
-use Rattle.std.proofs.Common.{◌≡◌, ◌^◌, ◌<◌, length, refl, ◌∙◌, arith}
+use Rattle.std.proofs.Common.{length, refl, ◌∙◌, arith}
 use Rattle.vt_pass_pool.specs.Placing.{rows_kept}
 use Rattle.vt_pass_pool.specs.Pools.{ways_of}
 use Rattle.vt_pass_pool.proofs.SameSamplers.{same_pages, same_counted}

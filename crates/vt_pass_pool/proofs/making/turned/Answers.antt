@@ -1,5 +1,5 @@
-use Rattle.std.proofs.Common.{◌≡◌, ◌+◌, [], ◌∷◌, ◌++◌, length, reverse, ap, ◌∙◌, arith}
-use Rattle.std.proofs.lemmas.List.{length-append, append-nil}
+use Rattle.std.proofs.Common.{[], ◌∷◌, ◌++◌, length, reverse, ap, ◌∙◌, arith}
+use Rattle.std.proofs.lemmas.List.{length-append}
 use Rattle.vt_pass_pool.proofs.MadeSamplers.{turned_more}
 use Rattle.vt_pass_pool.proofs.making.turned.Goals as goal
 

@@ -1,4 +1,4 @@
-use Rattle.std.proofs.Common.{◌≡◌, ◌+◌, [], ◌∷◌, ◌++◌, length, append_assoc, ap, ◌∙◌}
+use Rattle.std.proofs.Common.{[], ◌∷◌, ◌++◌, length, append_assoc, ap, ◌∙◌}
 use Rattle.vt_pass_pool.specs.Placing.{IsRowInside}
 use Rattle.vt_pass_pool.proofs.Placement.{placed_one, popped_all}
 use Rattle.vt_pass_pool.proofs.placing.place_rows.Goals as goal

@@ -1,12 +1,12 @@
-use Rattle.std.proofs.Common.{◌≡◌, ℕ, ◌+◌, ◌<◌, ◌≤◌, ◌⊎◌, inl, inr, false, true, List, [], ◌∷◌, Some, length, set, take, get_or, refl, sym, ap, ◌∙◌, subst, arith}
+use Rattle.std.proofs.Common.{◌≡◌, ℕ, ◌<◌, inl, inr, Some, length, take, get_or, sym, ◌∙◌, subst, arith}
 use Rattle.std.specs.Prelude.{slice_get, All}
 use Rattle.std.proofs.lemmas.Bool.{false≢true}
 use Rattle.std.proofs.lemmas.List.{length-set}
 use Rattle.std.proofs.lemmas.Option.{slice_get_within, slice_get-get_or}
 use Rattle.vt_journal.specs.Shape.{Shape}
 use Rattle.vt_pass_pool.specs.Pools.{IsSameSampler, ways_of}
-use Rattle.vt_pass_pool.specs.Placing.{IsRowInside, ArePlaced}
-use Rattle.vt_pass_pool.specs.Returned.{IsOut, IsClosed}
+use Rattle.vt_pass_pool.specs.Placing.{IsRowInside}
+use Rattle.vt_pass_pool.specs.Returned.{IsClosed}
 use Rattle.vt_pass_pool.proofs.Listed.{one_more, each_more, rest_same, map_take_more}
 use Rattle.vt_pass_pool.proofs.Stills.{still_none, still_more}
 use Rattle.vt_pass_pool.proofs.Placement.{placed_none, placed_more}

@@ -1,4 +1,4 @@
-use Rattle.std.proofs.Common.{◌≡◌, ℕ, ◌<◌, ◌≤◌, List, [], Some, true, false, length, take}
+use Rattle.std.proofs.Common.{◌≡◌, ℕ, ◌<◌, ◌≤◌, List, [], Some, false, length, take}
 use Rattle.std.specs.Prelude.{slice_get, IsTrue}
 use Rattle.vt_pass_pool.specs.Pools.{IsSameSampler, ways_of}
 use Rattle.vt_pass_pool.specs.Stills.{IsStill}

@@ -1,4 +1,4 @@
-use Rattle.std.proofs.Common.{◌≡◌, ◌*◌, ◌≤◌, length, refl, ap, arith}
+use Rattle.std.proofs.Common.{refl, ap, arith}
 use Rattle.vt_loading.proofs.StoreRooms.{on_ok}
 use Rattle.vt_pass.specs.WordPools.{WordPool}
 use Rattle.vt_pass.proofs.Kits.{samplers_home, prepared_kit}

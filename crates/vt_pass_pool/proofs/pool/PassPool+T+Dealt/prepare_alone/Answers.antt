@@ -1,7 +1,7 @@
-use Rattle.std.proofs.Common.{◌≡◌, ◌≤◌, length, refl, sym, ap, ◌∙◌, subst, arith}
+use Rattle.std.proofs.Common.{sym, subst, arith}
 use Rattle.vt_pass_rows.specs.SchedulesRows.{AreRowsInPlace}
 use Rattle.vt_pass_pool.specs.Pools.{line_length}
-use Rattle.vt_pass_pool.proofs.Readying.{so_too, begun_pool}
+use Rattle.vt_pass_pool.proofs.Readying.{so_too}
 use Rattle.vt_pass_pool.proofs.pool.PassPool+T+Dealt.prepare_alone.Goals as goal
 
 pub returns-clause-dealt : goal.returns-clause-dealt

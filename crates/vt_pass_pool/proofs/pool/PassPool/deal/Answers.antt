@@ -1,4 +1,4 @@
-use Rattle.std.proofs.Common.{◌≡◌, Some, length, sym, ap, ◌∙◌}
+use Rattle.std.proofs.Common.{length, sym, ap, ◌∙◌}
 use Rattle.std.specs.Prelude.{slice_get}
 use Rattle.vt_pass_rows.proofs.Lent.{refilled}
 use Rattle.vt_pass_pool.proofs.Readying.{dealt_pool}

@@ -1,4 +1,4 @@
-use Rattle.std.proofs.Common.{◌≡◌, length, sym, ap, ◌∙◌, subst, arith}
+use Rattle.std.proofs.Common.{length, sym, ap, ◌∙◌, subst, arith}
 use Rattle.vt_pass_rows.proofs.Lent.{refilled}
 use Rattle.vt_pass_rows.specs.SchedulesRows.{AreRowsInPlace}
 use Rattle.vt_pass_pool.specs.Pools.{line_length}
