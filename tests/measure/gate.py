@@ -3,10 +3,12 @@
 
     python3 tests/measure/gate.py run LOG      runs `rt ci --anew` at the top of the repository, which takes nothing that earlier runs
                                                kept; LOG gets what it prints, and a line of time for each check
-    python3 tests/measure/gate.py table LOG    prints the table of such a log, the sums, and the longest chain of crates; crates that
-                                               take less than a fortieth stand in one row, and with `all` behind LOG in their own.
-                                               Below it stand the crates whose edits are more than their proof allows
-    python3 tests/measure/gate.py page LOG     puts what `table LOG` prints into docs/PROVING.md, in place of what stands there
+    python3 tests/measure/gate.py on LOG       runs `rt ci`, which does what changed since, and logs it likewise
+    python3 tests/measure/gate.py table LOG..  prints the table of such logs, the sums, and the longest chain of crates; crates that
+                                               take less than a fortieth stand in one row, and with `all` behind the logs in their own.
+                                               Below it stand the crates whose edits are more than their proof allows. Of several logs
+                                               the first is a whole gate, and what a later one did again counts in place of what it was
+    python3 tests/measure/gate.py page LOG..   puts what `table LOG..` prints into docs/PROVING.md, in place of what stands there
 
 Nothing else is to be at work on the machine. The checks are watched twice a second, so a figure may lack half a second. The check of
 a crate's first must-fail edit proves the whole crate a second time: of its time what is above the mean of the other edits counts as
@@ -129,11 +131,11 @@ class Watch:
         check[4], check[5] = time.time(), max(check[5], spent)
 
 
-def run(log):
+def run(log, words):
     """Runs the gate, and returns its status."""
     began = time.time()
     with open(log, "w") as out:
-        gate = subprocess.Popen(["rt", "ci", "--anew"], stdin=subprocess.DEVNULL, stdout=out, stderr=subprocess.STDOUT)
+        gate = subprocess.Popen(["rt", "ci", *words], stdin=subprocess.DEVNULL, stdout=out, stderr=subprocess.STDOUT)
         watch = Watch(gate.pid)
         while gate.poll() is None:
             watch.look()
@@ -157,6 +159,20 @@ def read(log):
             elif line.startswith("time: all "):
                 whole = tuple(map(float, line.split()[2:]))
     return checks, whole
+
+
+def read_all(logs):
+    """The checks of the crates that stand, as the last of these logs that has them says, and the figures of the first log's gate."""
+    last, whole = {}, None
+    for log in logs:
+        checks, figures = read(log)
+        whole = whole or figures
+        own = {}
+        for check in checks:
+            own.setdefault((check[0], check[1]), []).append(check)
+        last.update(own)
+    standing = crates()
+    return [check for (crate, _), found in last.items() if crate in standing for check in found], whole
 
 
 def edits_of(checks):
@@ -209,9 +225,9 @@ def say_row(title, row):
     print(f"| {title} | {number(proof)} | {number(again)} | {tried} | {number(tests)} | {sum(row[:4]):.0f} |")
 
 
-def show(log, least=0.025):
-    """The table of a log; crates that take less than this part of the whole stand in one row."""
-    checks, (seconds, spent, own) = read(log)
+def show(logs, least=0.025):
+    """The table of logs; crates that take less than this part of the whole stand in one row."""
+    checks, (seconds, spent, own) = read_all(logs)
     rows = rows_of(checks)
     whole = sum_of(rows.values())
     small = {crate for crate, row in rows.items() if sum(row[:4]) < least * sum(whole[:4])}
@@ -225,9 +241,12 @@ def show(log, least=0.025):
     print()
     say = lambda text: print(textwrap.fill(text, 150))
     say(
-        f"The gate took {seconds / 60:.1f} minutes and {spent:.0f} processor seconds, those of what is run and linked among them, "
-        f"and {own:.0f} of rt's own process."
+        f"{'The first gate' if logs[1:] else 'The gate'} took {seconds / 60:.1f} minutes and {spent:.0f} processor seconds, those of what is "
+        f"run and linked among them, and {own:.0f} of rt's own process."
     )
+    if logs[1:]:
+        spent += sum(whole[:4]) - sum(check[5] for check in read(logs[0])[0])
+        say(f"What was done again since is in the table: with it these are {spent:.0f}.")
     unit = sum(rows[crate][0] for crate in UNIT if crate in rows)
     if unit:
         say(
@@ -242,9 +261,9 @@ def show(log, least=0.025):
     say(f"The longest chain takes {together:.0f} seconds by the clock: " + ", ".join(f"{crate} {took:.0f}" for crate, took in chain) + ".")
 
 
-def put_page(log):
+def put_page(logs):
     with contextlib.redirect_stdout(io.StringIO()) as printed:
-        show(log)
+        show(logs)
     with open(PAGE) as it:
         text, count = PLACE.subn(lambda _: printed.getvalue(), it.read())
     with open(PAGE, "w") as it:
@@ -253,12 +272,13 @@ def put_page(log):
 
 
 def main(words):
-    if len(words) == 2 and words[0] == "run":
-        return run(words[1])
-    if len(words) == 2 and words[0] == "page":
-        return put_page(words[1])
-    if len(words) in (2, 3) and words[0] == "table" and words[2:] in ([], ["all"]):
-        show(words[1], 0 if words[2:] else 0.025)
+    if len(words) == 2 and words[0] in ("run", "on"):
+        return run(words[1], ["--anew"] if words[0] == "run" else [])
+    if len(words) >= 2 and words[0] == "page":
+        return put_page(words[1:])
+    if len(words) >= 2 and words[0] == "table":
+        logs = [it for it in words[1:] if it != "all"]
+        show(logs, 0 if "all" in words[1:] else 0.025)
         return 0
     print(__doc__, end="", file=sys.stderr)
     return 2
