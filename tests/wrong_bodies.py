@@ -37,7 +37,11 @@ def try_crate(crate):
 
 
 def main():
-    crates = sys.argv[1:] or sorted(os.listdir(KEPT))
+    known = sorted(os.listdir(KEPT))
+    crates = sys.argv[1:] or known
+    for crate in crates:
+        if crate not in known:
+            sys.exit(f"wrong_bodies: no edits of {crate}: there are those of {', '.join(known)}")
     refused = [try_crate(crate) for crate in crates]
     sys.exit(0 if all(refused) else 1)
 

@@ -276,8 +276,8 @@ def main(words):
         return run(words[1], ["--anew"] if words[0] == "run" else [])
     if len(words) >= 2 and words[0] == "page":
         return put_page(words[1:])
-    if len(words) >= 2 and words[0] == "table":
-        logs = [it for it in words[1:] if it != "all"]
+    logs = [it for it in words[1:] if it != "all"]
+    if logs and words[0] == "table":
         show(logs, 0 if "all" in words[1:] else 0.025)
         return 0
     print(__doc__, end="", file=sys.stderr)
