@@ -1,2 +1,1 @@
 mod Small
-mod Blank

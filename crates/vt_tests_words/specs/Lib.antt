@@ -1,2 +1,1 @@
 pub mod SmallStreams
-pub mod BlankStreams

@@ -3,8 +3,6 @@
 #![tactic(auto)]
 
 #[cfg(test)]
-mod measured;
-#[cfg(test)]
 mod sampler;
 #[cfg(test)]
 mod streamer;
