@@ -6,8 +6,5 @@ mod room;
 mod round;
 
 pub use pool::LoaderPool;
-pub use room::{reserve_reads, with_room};
-pub use round::{RoundStock, blank_report, new_queues};
-pub use vt_requests::{
-    Batch, Crew, PassMachine, PassReport, Planned, Task, answered, work_together,
-};
+pub use round::{blank_report, new_queues};
+pub use vt_requests::{Batch, Crew, PassMachine, PassReport, Planned, Task, work_together};

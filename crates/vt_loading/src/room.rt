@@ -8,7 +8,7 @@ use vt_outside::{File, Items, NoMemory};
 use vt_tiles::Store;
 
 /// An empty list with room for so many elements.
-pub fn with_room<I>(alloc: Global, n: u64) -> Result<Items<I>, NoMemory>
+pub(crate) fn with_room<I>(alloc: Global, n: u64) -> Result<Items<I>, NoMemory>
 where
     I: Drop,
     ensures empty { IfOk result (λ list. list.elements ≡ []) }
@@ -20,7 +20,7 @@ where
 }
 
 /// Makes room in each store to note so many more reads.
-pub fn reserve_reads<F: File>(stores: &mut [Store<F>], reads: u64) -> Result<(), NoMemory>
+pub(crate) fn reserve_reads<F: File>(stores: &mut [Store<F>], reads: u64) -> Result<(), NoMemory>
     ensures same { AreSameStores F.File stores.old stores.new }
     ensures room { OnOk result (All (λ store. reads ≤ F.spare store.file) stores.new) }
 {

@@ -31,7 +31,7 @@ use vt_tiles::Stores;
 
 /// What the loaders of a pass work with: the pass of the requests, and room for the loaders, their stores and the
 /// buffers. Contracts see all of these.
-pub struct RoundStock<F: File> {
+pub(crate) struct RoundStock<F: File> {
     alloc: Global,
     asks: QueuePass<Request>,
     loaders: Items<QueuedLoader<F>>,

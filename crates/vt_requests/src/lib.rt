@@ -1,12 +1,10 @@
 //! A round of requests for a batch: what is asked, what comes back and is told, and what the results are for the batch.
 #![tactic(auto)]
 
-mod answers;
 mod asks;
 mod report;
 mod rounds;
 
-pub use answers::answered;
 pub use asks::{ask_batch, give_back};
 pub use report::StreamReport;
 pub use rounds::rounds_are_passes;

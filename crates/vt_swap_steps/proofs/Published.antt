@@ -1,6 +1,5 @@
 -- What is noted and published.
-use Rattle.std.proofs.Common.{◌≡◌, ℕ, ◌+◌, ◌%◌, ◌<◌, ◌≤◌, ◌^◌, Option, Some, None, List, [], ◌∷◌, ◌++◌, length, sym, ap, ◌∙◌, subst, arith, length-append, append_assoc}
-use Rattle.std.proofs.Math.Nat.{mod-eq_of_lt}
+use Rattle.std.proofs.Common.{◌≡◌, ℕ, ◌+◌, ◌<◌, ◌≤◌, ◌^◌, Option, Some, None, List, [], ◌∷◌, ◌++◌, length, sym, ap, ◌∙◌, subst, arith, length-append, append_assoc}
 use Rattle.std.specs.Prelude.{slice_get, IfSome, Result, Ok, Err, MatchResult}
 use Rattle.vt_journal.specs.Limits.{most_versions}
 use Rattle.vt_journal.specs.declared.changes.Change.{Change}
@@ -11,12 +10,11 @@ use Rattle.vt_swap_log.specs.declared.records.LogRecord.{LogRecord}
 use Rattle.vt_swap_log.specs.declared.records.LogRecord.TheVariants.{Changed, Filled}
 use Rattle.vt_swap_log.specs.declared.log.Front.{Front}
 use Rattle.vt_swap_steps.specs.declared.table.NewestTable.{NewestTable}
-use Rattle.vt_swap_steps.specs.declared.table.TableState.{TableState}
 use Rattle.vt_swap_steps.specs.declared.table.Operation.{Operation}
 use Rattle.vt_swap_steps.specs.declared.rule.Known.{Known}
 use Rattle.vt_swap_log.specs.Logs.{changes_in, MayFollow}
 use Rattle.vt_swap_log.specs.Caches.{cache_of, AreOfOneLog}
-use Rattle.vt_swap_steps.specs.Tables.{shown, applied, journal_of, IsPublished, MayPublish}
+use Rattle.vt_swap_steps.specs.Tables.{journal_of, IsPublished, MayPublish}
 use Rattle.vt_swap_steps.specs.Rules.{KnowsLog}
 use Rattle.vt_swap_log.proofs.Lawful.{changes-append, changes-filled, last_record}
 
@@ -71,22 +69,6 @@ pub published_if_filled : {W : Type 0} (home : Option W) (table : W → NewestTa
 published_if_filled home table pending old new frame page words published cache log =
     if_some_on home (λ w. IsPublished (table w) (pending w) old) (λ w. IsPublished (table w) (pending w) new)
     (λ w h. published_filled (table w) (pending w) old new frame page words h cache log) published
-
--- all is published once the change that waited is
-pub published_now : (t u : NewestTable) (pending : List Operation) (change : Change) (front : Front) → MayPublish t [] change front
-    → shown u ≡ applied (shown t) (record { change = change; front = front }) → pending ≡ [] → IsPublished u pending front
-published_now t u pending change front may same none =
-    let more = ap length may.journal ∙ length-append (journal_of t.front) (change ∷ []) in
-    let wraps : (t.version + 1) % 2 ^ 64 ≡ t.version + 1 = mod-eq_of_lt (omega (arith, may.early, may.version, more)) in
-    let count : t.version + 1 ≡ length (journal_of front) = omega (arith, may.version, more) in
-    record {
-      version =
-          ap (λ (s : TableState). s.version) same ∙ wraps ∙ count
-          ∙ sym (ap (λ (s : TableState). length (changes_in s.front.seen.log)) same);
-      cache = ap (λ (s : TableState). cache_of s.front) same;
-      journal = ap (λ (s : TableState). changes_in s.front.seen.log) same;
-      none = none;
-    }
 
 -- a page may be mapped next after its frame was filled
 pub may_map : (old new : Front) (frame page : ℕ) (words : List ℕ) → new.seen.log ≡ old.seen.log ++ Filled frame page words ∷ []
