@@ -64,6 +64,7 @@ pub fn map_page<Rt: Wait>(
     requires tile { IsTile streamer.old.shape tile.now }
     requires spare { 1 ≤ streamer.old.spare }
     ensures of { IsStreamerOf words.now streamer.new }
+    ensures version { result ≡ length streamer.new.writer.journal }
     ensures made { HasMade (Changed (Map page frame) ∷ [])
         (words_in streamer.old.shape tile.now ∷ []) streamer.old.writer streamer.new.writer }
     ensures shape { streamer.new.shape ≡ streamer.old.shape }

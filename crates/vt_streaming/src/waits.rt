@@ -70,6 +70,7 @@ pub(crate) fn publish<Rt: Wait>(
     requires legal { IsLegalNext streamer.old.shape (newest streamer.old.writer.journal) change }
     requires ready { IsReady (streamer_table streamer.old) change }
     ensures of { IsStreamerOf words.now streamer.new }
+    ensures version { result ≡ length streamer.new.writer.journal }
     ensures made { HasMade (Changed change ∷ []) (content_of words.now.sizes streamer.old.writer.texels change ∷ [])
         streamer.old.writer streamer.new.writer }
     ensures filled { filled_for (streamer_table streamer.new) ≡ filled_after (filled_for (streamer_table streamer.old)) change }

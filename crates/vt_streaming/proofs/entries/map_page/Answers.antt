@@ -17,6 +17,7 @@ returns g c =
     let spare : w.spare ≡ u.spare = ap (λ (y : StreamerView). y.spare) (fill.rest) ∙ ap (λ (y : StreamerView). y.spare) looked in
     record {
       of = did.of;
+      version = did.version;
       made = made_both [] _ [] _ u.writer v.writer x.writer (made_looked u.writer v.writer (ap (λ (y : StreamerView). y.writer) looked))
           (made_both [] _ [] _ v.writer w.writer x.writer (made_filled v.writer w.writer (ap (λ (y : StreamerView). y.writer) fill.rest))
           (subst (λ (content : List ℕ). HasMade (Changed (Map page frame) ∷ []) (content ∷ []) w.writer x.writer)

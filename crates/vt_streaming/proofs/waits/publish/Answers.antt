@@ -32,6 +32,7 @@ returns-in-Ok g c =
     let texels : v.writer.texels ≡ u.writer.texels = ap (λ (x : StreamerView). x.writer.texels) i.looked in
     record {
       of = did.of;
+      version = did.version;
       made = made_both [] _ [] _ u.writer v.writer w.writer (made_looked u.writer v.writer (ap (λ (x : StreamerView). x.writer) i.looked))
           (made_published v.writer w.writer change (content_of c.args.words.now.sizes u.writer.texels change) did.published
           (λ k. content_of (i.of.seen k) (texels k) change));
