@@ -1,4 +1,3 @@
 pub use Rattle.vt_machine.proofs.Lent
-pub use Rattle.vt_machine.proofs.Streaming
 pub use Rattle.vt_pictures.proofs.Handed
 pub use Rattle.vt_tiles.proofs.Stored

@@ -1,58 +1,47 @@
 -- A result that is applied.
-use Rattle.std.proofs.Common.{◌≡◌, ℕ, ◌+◌, ◌≤◌, inl, inr, ◌⊎◌, Bool, true, false, Option, Some, List, [], ◌∷◌, ◌++◌, refl, sym, ap, ◌∙◌, arith}
+use Rattle.std.proofs.Common.{◌≡◌, ℕ, inl, inr, ◌⊎◌, Bool, true, false, Option, Some, None, List, [], ◌∷◌, ◌++◌, refl, sym, ap, ◌∙◌, subst, arith}
 use Rattle.std.specs.Prelude.{slice_get}
 use Rattle.std.proofs.lemmas.List.{append-nil}
+use Rattle.vt_journal.specs.declared.changes.Change.{Change}
 use Rattle.vt_journal.specs.JournalText.{changes_of}
 use Rattle.vt_page_table.specs.PlanTypes.batches.Planned.{Planned}
-use Rattle.vt_page_table.specs.Outcomes.{group_of, group_if}
+use Rattle.vt_page_table.specs.Outcomes.{group_if}
 use Rattle.vt_queue.specs.declared.items.Loaded.{Loaded}
 use Rattle.vt_streaming.specs.Readings.{is_lost}
-use Rattle.vt_streaming.specs.BatchRounds.{page_if}
+use Rattle.vt_streaming.specs.BatchRounds.{result_group, page_if}
+use Rattle.vt_streaming.specs.Applied.{IsAppliedAt}
 use Rattle.vt_page_table.specs.declared.table.PageTable.{Ghosts as TableMeanings}
 use Rattle.vt_page_table.specs.Fills.{AreTexelWords}
-use Rattle.vt_pass_stream.specs.Streamed.{area, IsFillOf, IsBroughtAs, IsAppliedAs, HasApplied}
+use Rattle.vt_pass_stream.specs.Streamed.{area, IsFillOf, IsBroughtAs, HasApplied}
 
-module _ {T H R W : Type 0} (table : TableMeanings T H R W) (d : ℕ) (e : Planned) (x : Loaded) (v w : W) where
-  -- its tile was read
-  pub read_applied : is_lost x.outcome ≡ false → IsBroughtAs table d x.request.buffer.elements e v w → IsAppliedAs table d e x v w
-  read_applied read b = record {
-    journal = b.journal ∙ ap (λ (lost : Bool). table.journal v ++ changes_of (group_of e lost)) (sym read);
-    room = b.room;
-    filled = λ page words is. on page words (b.filled page words is);
-    later = b.later;
+module _ {T H R W : Type 0} (table : TableMeanings T H R W) (d : ℕ) (batch : List Planned) (x : Loaded) (v w : W) (none_later : table.later v v) where
+  -- nothing was done
+  still_applied : changes_of (result_group batch x) ≡ [] → w ≡ v → HasApplied table d batch x v w
+  still_applied none same = subst (HasApplied table d batch x v) (sym same) (record {
+    shape = refl;
+    journal = sym (append-nil (table.journal v)) ∙ ap (λ (js : List Change). table.journal v ++ js) (sym none);
+    fills = λ page words is. inl is;
+    later = none_later;
+  })
+
+  -- it was applied to the entry of its ticket
+  pub applied_at : (o : Option Planned) (lost : Bool) → slice_get batch x.request.ticket ≡ o → is_lost x.outcome ≡ lost
+      → IsAppliedAt (IsBroughtAs table d) o lost x.request.buffer.elements v w → HasApplied table d batch x v w
+  applied_at None lost at is same = still_applied (ap (λ (o : Option Planned). changes_of (group_if o (is_lost x.outcome))) at) same
+  applied_at (Some e) true at is same = still_applied (λ i. changes_of (group_if (at i) (is i))) same
+  applied_at (Some e) false at is put = record {
+    shape = put.shape;
+    journal = put.journal ∙ (λ i. table.journal v ++ changes_of (group_if (sym at i) (sym is i)));
+    fills = λ page words filled. on page words (put.filled page words filled);
+    later = put.later;
   } where
     on : (page : ℕ) (words : List ℕ) → table.is_filled v page words ⊎ ((page ≡ e.page) × AreTexelWords d (area (table.shape v)) x.request.buffer.elements words)
-        → table.is_filled v page words
-        ⊎ ((is_lost x.outcome ≡ false) × (page ≡ e.page) × AreTexelWords d (area (table.shape v)) x.request.buffer.elements words)
+        → table.is_filled v page words ⊎ IsFillOf d (area (table.shape v)) batch (x ∷ []) page words
     on page words (inl old) = inl old
-    on page words (inr new) = inr (read, new.0, new.1)
-
-  -- or it was lost
-  pub lost_applied : is_lost x.outcome ≡ true → table.later v v → ((m n : ℕ) → n ≤ m → table.has_room v m → table.has_room v n) → IsAppliedAs table d e x v v
-  lost_applied lost none less = record {
-    journal = sym (append-nil (table.journal v)) ∙ ap (λ (b : Bool). table.journal v ++ changes_of (group_of e b)) (sym lost);
-    room = λ n room. less (n + 2) n (omega arith) room;
-    filled = λ page words is. inl is;
-    later = none;
-  }
-
--- a result was applied to the entry of its ticket
-pub applied_at : {T H R W : Type 0} (table : TableMeanings T H R W) (d : ℕ) (batch : List Planned) (x : Loaded) (e : Planned) (v w : W)
-    → slice_get batch x.request.ticket ≡ Some e → IsAppliedAs table d e x v w → HasApplied table d batch x v w
-applied_at {T} {H} {R} {W} table d batch x e v w at a = record {
-  journal = a.journal ∙ ap (λ (o : Option Planned). table.journal v ++ changes_of (group_if o (is_lost x.outcome))) (sym at);
-  room = a.room;
-  fills = λ page words is. on page words (a.filled page words is);
-  later = a.later;
-} where
-  on : (page : ℕ) (words : List ℕ) → table.is_filled v page words
-      ⊎ ((is_lost x.outcome ≡ false) × (page ≡ e.page) × AreTexelWords d (area (table.shape v)) x.request.buffer.elements words)
-      → table.is_filled v page words ⊎ IsFillOf d (area (table.shape v)) batch (x ∷ []) page words
-  on page words (inl old) = inl old
-  on page words (inr new) = inr (record {
-    result = x;
-    among = (0, omega arith, refl);
-    read = new.0;
-    page_is = ap page_if at ∙ sym new.1;
-    words_of = new.2;
-  })
+    on page words (inr new) = inr (record {
+      result = x;
+      among = (0, omega arith, refl);
+      read = is;
+      page_is = ap page_if at ∙ sym new.0;
+      words_of = new.1;
+    })

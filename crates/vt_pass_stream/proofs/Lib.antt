@@ -1,3 +1,2 @@
-mod Kept
-mod Lasting
 mod Applying
+mod Lasting

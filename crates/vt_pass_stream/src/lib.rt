@@ -1,8 +1,8 @@
-//! A batch is streamed into a page table, result by result, while loaders work and samplers draw: one loop for all page tables.
+//! A batch is streamed into a page table, result by result, while loaders work and samplers draw.
 #![tactic(auto)]
 
-mod results;
 mod stream;
+mod tiles;
 
 pub use stream::stream_into;
 pub use vt_streaming::StreamReport;

@@ -11,14 +11,14 @@ ghost use Rattle.vt_streaming.specs.TakenResults.{Streams};
 ghost use Rattle.vt_streaming.specs.BlankReports.{IsBlank};
 ghost use Rattle.vt_pass_stream.specs.Streamed.{HasStreamedAll};
 
-use crate::results::{is_kept, stream_result};
+use crate::tiles::TableTiles;
 use std::sync::Wait;
 use std::thread::Threads;
 use vt_journal::Geometry;
 use vt_outside::Gate;
 use vt_page_table::{PageTable, Planned, tile_length};
 use vt_queue::{Loaded, QueuePass, ResultQueue};
-use vt_streaming::{StreamReport, take_result};
+use vt_streaming::{StreamReport, stream_results};
 
 /// Takes results until there was one for each entry of a batch, and applies each to the entry of its ticket as it comes: where the
 /// tile was read, the victim is unmapped, the frame filled and the page mapped; where it is lost, that is noted. Other results are
@@ -60,20 +60,12 @@ pub fn stream_into<T: PageTable, Rt: Threads + Wait, G: Gate>(
         ≡ into.old.events.elements ++ result_events batch.now into.new.results.elements }
     ensures refused { result ≡ true → T.refuses }
 {
-    let size = tile_length(geometry, depth);
-    let mut refused = false;
-    let mut done = 0;
-    for _ in rt.forever() {
-        if done >= batch.len() {
-            return refused;
-        }
-        let loaded = take_result(rt, results, answers);
-        if is_kept(size, &into.taken, &loaded) {
-            refused = stream_result::<T, Rt, G>(
-                rt, shared, writer, batch, loaded, depth, refused, into, gate,
-            );
-            done += 1;
-        }
-    }
-    unreachable!()
+    let tiles = TableTiles::<'_, T> {
+        table: shared,
+        depth,
+        size: tile_length(geometry, depth),
+    };
+    stream_results::<TableTiles<'_, T>, Rt, G>(
+        rt, &tiles, writer, results, answers, batch, into, gate,
+    )
 }

@@ -15,9 +15,9 @@ is_new taken count ticket = nat_lt ticket count && not (slice_index_or taken tic
 abbrev pub is_tile_length : Shape → ℕ → Bool
 is_tile_length s n = nat_eq n (3 * (s.tile * s.tile)) || nat_eq n (6 * (s.tile * s.tile))
 
--- a result is to be applied: nothing was taken for its ticket, and its buffer has the length of a tile
-abbrev pub is_wanted : Shape → List Bool → Loaded → Bool
-is_wanted s taken result = is_new taken (length taken) result.request.ticket && is_tile_length s (length result.request.buffer.elements)
+-- a result is to be applied: nothing was taken for its ticket, and its buffer has the length of a tile, where it is said which lengths are
+abbrev pub is_wanted : (ℕ → Bool) → List Bool → Loaded → Bool
+is_wanted is_tile taken result = is_new taken (length taken) result.request.ticket && is_tile (length result.request.buffer.elements)
 
 -- a pass has taken results; of these were kept: at most one for each ticket, which is marked; and all of them, if as many were kept as
 -- were taken

@@ -1,13 +1,11 @@
 -- Results that are taken one after another.
-use Rattle.std.proofs.Common.{◌≡◌, ◌≢◌, ℕ, zero, suc, ◌*◌, ◌<◌, inl, inr, Bool, true, false, List, [], ◌∷◌, ◌++◌, length, set, get_or, refl, sym, ap, ◌∙◌, append_assoc, length-append, arith}
-use Rattle.std.specs.Prelude.{slice_index_or, not, ◌&&◌, ◌||◌, nat_lt, nat_eq}
+use Rattle.std.proofs.Common.{◌≡◌, ◌≢◌, ℕ, zero, suc, ◌<◌, Bool, true, false, List, [], ◌∷◌, ◌++◌, length, set, get_or, refl, sym, ap, ◌∙◌, append_assoc, length-append, arith}
+use Rattle.std.specs.Prelude.{slice_index_or, not, ◌&&◌, nat_lt, nat_eq}
 use Rattle.std.proofs.lemmas.Bool.Decides.{nat_tests}
 use Rattle.std.proofs.lemmas.Bool.{false≢true}
 use Rattle.std.proofs.lemmas.List.Quantifiers.{all_pairs_push}
 use Rattle.std.proofs.lemmas.List.{map-append, append-nil}
 use Rattle.std.proofs.lemmas.List.Elements.{All-nil, All-push}
-use Rattle.vt_journal.specs.Shape.{Shape}
-use Rattle.vt_streamer.specs.TableViews.{IsTile}
 use Rattle.vt_queue.specs.declared.items.Loaded.{Loaded}
 use Rattle.vt_queue.specs.declared.views.PassView.{PassView}
 use Rattle.vt_queue.specs.PassViews.{pass_view}
@@ -40,34 +38,29 @@ set_length (x ∷ xs) zero b = refl
 set_length (x ∷ xs) (suc i) b = ap suc (set_length xs i b)
 
 -- what a wanted result is
-pub both_parts : (a b : Bool) → (a && b) ≡ true → (a ≡ true) × (b ≡ true)
+both_parts : (a b : Bool) → (a && b) ≡ true → (a ≡ true) × (b ≡ true)
 both_parts true b e = (refl, e)
 both_parts false b e = absurd (false≢true e)
 
-pub not_so : (b : Bool) → not b ≡ true → b ≡ false
+not_so : (b : Bool) → not b ≡ true → b ≡ false
 not_so true e = absurd (false≢true e)
 not_so false e = refl
 
-pub below : (a b : ℕ) → nat_lt a b ≡ true → a < b
+below : (a b : ℕ) → nat_lt a b ≡ true → a < b
 below a b e = grind (arith, nat_tests)
 
 pub same : (a b : ℕ) → nat_eq a b ≡ true → a ≡ b
 same a b e = grind (arith, nat_tests)
 
-pub wanted_inside : (s : Shape) (taken : List Bool) (r : Loaded) → is_wanted s taken r ≡ true → r.request.ticket < length taken
-wanted_inside s taken r e = below _ _ (both_parts _ _ (both_parts _ _ e).0).0
+pub wanted_inside : (is_tile : ℕ → Bool) (taken : List Bool) (r : Loaded) → is_wanted is_tile taken r ≡ true → r.request.ticket < length taken
+wanted_inside is_tile taken r e = below _ _ (both_parts _ _ (both_parts _ _ e).0).0
 
-pub wanted_new : (s : Shape) (taken : List Bool) (r : Loaded) → is_wanted s taken r ≡ true → get_or taken r.request.ticket false ≡ false
-wanted_new s taken r e = not_so _ (both_parts _ _ (both_parts _ _ e).0).1
+pub wanted_new : (is_tile : ℕ → Bool) (taken : List Bool) (r : Loaded) → is_wanted is_tile taken r ≡ true → get_or taken r.request.ticket false ≡ false
+wanted_new is_tile taken r e = not_so _ (both_parts _ _ (both_parts _ _ e).0).1
 
-tile_of_length : (s : Shape) (tile : List ℕ) (a b : Bool) → nat_eq (length tile) (3 * (s.tile * s.tile)) ≡ a → nat_eq (length tile) (6 * (s.tile * s.tile)) ≡ b
-    → (a || b) ≡ true → IsTile s tile
-tile_of_length s tile true b narrow wide e = record { depth = 1; lawful = inl refl; full = same _ _ narrow }
-tile_of_length s tile false true narrow wide e = record { depth = 2; lawful = inr refl; full = same _ _ wide }
-tile_of_length s tile false false narrow wide e = absurd (false≢true e)
-
-pub wanted_tile : (s : Shape) (taken : List Bool) (r : Loaded) → is_wanted s taken r ≡ true → IsTile s r.request.buffer.elements
-wanted_tile s taken r e = tile_of_length s r.request.buffer.elements _ _ refl refl (both_parts _ _ e).1
+pub wanted_tile : (is_tile : ℕ → Bool) (taken : List Bool) (r : Loaded) → is_wanted is_tile taken r ≡ true
+    → is_tile (length r.request.buffer.elements) ≡ true
+wanted_tile is_tile taken r e = (both_parts _ _ e).1
 
 taken_more : (v w x : PassView Loaded) (got : List (ℕ × Loaded)) (r : Loaded) → w ≡ with_taken v got → (t : Takes w r x)
     → x ≡ with_taken v (got ++ (t.place, r) ∷ [])

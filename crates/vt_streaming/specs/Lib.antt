@@ -6,10 +6,8 @@ pub use Rattle.vt_requests.specs.Readings
 pub use Rattle.vt_requests.specs.Replays
 pub use Rattle.vt_requests.specs.Rows
 pub use Rattle.vt_requests.specs.Scenes
-pub use Rattle.vt_requests.specs.Streamed
 pub use Rattle.vt_requests.specs.Streams
 pub use Rattle.vt_requests.specs.TakenResults
-pub use Rattle.vt_requests.specs.declared as RequestsTypes
 pub use Rattle.vt_streamer.specs.Banks
 pub use Rattle.vt_streamer.specs.Contents
 pub use Rattle.vt_streamer.specs.Fills
@@ -19,5 +17,6 @@ pub use Rattle.vt_streamer.specs.Notes
 pub use Rattle.vt_streamer.specs.Sound
 pub use Rattle.vt_streamer.specs.Views
 pub use Rattle.vt_streamer.specs.WriterViews
+pub mod Applied
 pub mod Made
 pub mod Reports

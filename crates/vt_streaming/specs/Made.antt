@@ -7,6 +7,7 @@ use Rattle.vt_requests.specs.PlanTypes.batches.Planned.{Planned}
 use Rattle.vt_streamer.specs.GraceTypes.views.WriterView.{WriterView}
 use Rattle.vt_queue.specs.declared.items.Loaded.{Loaded}
 use Rattle.vt_requests.specs.Readings.{is_lost}
+use Rattle.vt_requests.specs.Outcomes.{group_of}
 use Rattle.vt_streamer.specs.Fills.{words_in}
 use Rattle.vt_streamer.specs.Views.{StreamerView}
 use Rattle.vt_requests.specs.BatchRounds.{result_events}
@@ -54,3 +55,8 @@ results_contents s batch results = flat_map (result_contents s batch) results
 -- the changes of the results of a batch were published, in the order in which they came, each map with the words of its result's buffer
 abbrev pub HasStreamed : Shape → List Planned → List Loaded → WriterView → WriterView → Type 0
 HasStreamed s batch results v w = HasMade (result_events batch results) (results_contents s batch results) v w
+
+-- an entry was put with a tile: the changes of its group were made
+pub record HasPut (e : Planned) (tile : List ℕ) (v w : StreamerView) : Type 0 where
+  pub made : HasMade (group_of e false) (group_contents v.shape e false tile) v.writer w.writer
+  pub shape : w.shape ≡ v.shape

@@ -19,7 +19,7 @@ use vt_queue::{Loaded, QueuePass, ResultQueue};
 use vt_streamer::{Streamer, Words};
 
 /// Takes the first result. It waits until there is one, with a pause before each new look.
-pub fn take_result<Rt: Threads + Wait>(
+pub(crate) fn take_result<Rt: Threads + Wait>(
     rt: &Rt,
     results: &ResultQueue,
     answers: &mut QueuePass<Loaded>,

@@ -1,4 +1,0 @@
-use Rattle.vt_pass_stream.proofs.results.stream_result.Goals as goal
-
-pub apply_at-refused-requires-clause-entry : goal.apply_at-refused-requires-clause-entry
-apply_at-refused-requires-clause-entry g c = c.requires.entry c.if-refused.false
