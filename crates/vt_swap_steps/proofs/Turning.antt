@@ -1,6 +1,5 @@
 -- Entering and publishing keep the rule of the one journal.
 use Rattle.std.proofs.Common.{◌≡◌, ℕ, zero, suc, ◌+◌, ◌%◌, ◌<◌, ◌≤◌, ◌≢◌, ◌^◌, inl, inr, Option, Some, None, List, [], ◌∷◌, ◌++◌, set, get_or, length, replicate, refl, sym, ap, ◌∙◌, subst, ⊎_elim, le_refl, le_trans, arith, length-append}
-use Rattle.std.specs.Prelude.{All}
 use Rattle.std.proofs.Math.Nat.{mod-eq_of_lt}
 use Rattle.std.proofs.lemmas.List.{length-set, length-replicate, get_or-set_same, get_or-set_other}
 use Rattle.std.proofs.lemmas.List.Elements.{All-nil, All-cons, All-weaker}

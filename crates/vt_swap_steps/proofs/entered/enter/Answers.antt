@@ -1,6 +1,5 @@
-use Rattle.std.proofs.Common.{◌≡◌, ℕ, ◌∷◌, sym, ap, ◌∙◌, subst}
+use Rattle.std.proofs.Common.{sym, ap, ◌∙◌, subst}
 use mathlib.Core.List.{IsPrefix}
-use Rattle.left_right.specs.Sides.{view}
 use Rattle.vt_swap_steps.specs.declared.table.NewestTable.{NewestTable}
 use Rattle.vt_swap_steps.specs.declared.rule.Known.{Known}
 use Rattle.vt_swap_steps.proofs.entered.enter.Goals as goal

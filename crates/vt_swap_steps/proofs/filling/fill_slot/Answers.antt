@@ -1,4 +1,4 @@
-use Rattle.std.proofs.Common.{sym, ap, subst}
+use Rattle.std.proofs.Common.{sym, subst}
 use Rattle.std.specs.Prelude.{drop, IfSome}
 use Rattle.vt_swap_log.specs.declared.log.Front.{Front}
 use Rattle.vt_swap_steps.specs.Tables.{IsPublished}
