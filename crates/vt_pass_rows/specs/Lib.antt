@@ -21,3 +21,4 @@ pub use Rattle.vt_schedules.specs.SharedRows
 pub use Rattle.vt_schedules.specs.declared as SchedulesTypes
 pub mod DrawnRows
 pub mod PassSamplers
+pub mod PassTurns

@@ -1,4 +1,4 @@
-//! The rows that a sampler draws: one loop for all page tables, schedules and filters.
+//! The rows that a sampler of a pass draws, for all page tables, schedules and filters.
 #![tactic(auto)]
 
 mod rows;

@@ -1,20 +1,34 @@
-//! The row loop.
+//! The rows of a sampler of a pass: by any page table, schedule and filter.
 
-ghost use Rattle.std.specs.Prelude.{◌≡◌, ℕ, ◌+◌, ◌*◌, ◌<◌, ◌≤◌, ◌^◌, [], length, reverse, slice_index, All};
+ghost use Rattle.std.specs.Prelude.{◌≡◌, ℕ, ◌+◌, ◌*◌, ◌<◌, ◌^◌, length, slice_index};
 ghost use Rattle.vt_definitions.specs.Depths.{IsDepth};
 ghost use Rattle.vt_page_table.specs.Pages.{pages_of};
 ghost use Rattle.vt_page_table.specs.Paths.{ArePictureSides};
-ghost use Rattle.vt_page_table.specs.Shots.{shot_row, wants_in_rows};
+ghost use Rattle.vt_page_table.specs.Shots.{shot_row};
 ghost use Rattle.vt_page_table.specs.Evidence.{AreShown, AreRaised};
 ghost use Rattle.vt_schedules.specs.Samplers.{row_length};
-ghost use Rattle.vt_schedules.specs.SharedRows.{VersionsRise, rows_of, versions_of};
-ghost use Rattle.vt_pass_rows.specs.DrawnRows.{IsDrawnRow};
 
+use crate::sampler::PassSampler;
+use std::marker::PhantomData;
 use std::sync::Wait;
 use vt_definitions::texel_length;
-use vt_outside::{Gate, Items};
+use vt_outside::Gate;
 use vt_page_table::{Filter, PageTable, Shot};
-use vt_schedules::{RowJob, Schedule};
+use vt_schedules::{RowJob, Schedule, Turns};
+
+/// The rows of a picture that a sampler of a pass takes by a schedule, and draws by a filter over a page table.
+#[derive(Drop)]
+pub(crate) struct PassTurns<'a, T: PageTable, S: Schedule, P: Filter, G: Gate, R: Wait> {
+    pub rt: &'a R,
+    pub table: &'a T::Shared,
+    pub rows: &'a S::Shared,
+    pub shot: &'a Shot<'a>,
+    pub height: u32,
+    /// How many bytes a row has.
+    pub line: usize,
+    pub gate: &'a G,
+    pub filter: PhantomData<P>,
+}
 
 /// How many rows the picture of a shot has, and how many bytes a row.
 pub(crate) fn size_of(shot: &Shot) -> (u32, usize)
@@ -74,50 +88,43 @@ fn draw_job<T: PageTable, P: Filter, G: Gate, R: Wait>(
     job
 }
 
-/// Draws rows of a picture by a filter over a page table: takes the next one when the last is drawn, until there is none, and keeps them in
-/// that order.
-pub(crate) fn draw_rows<T: PageTable, S: Schedule, P: Filter, G: Gate, R: Wait>(
-    rt: &R,
-    table: &T::Shared,
-    rows: &S::Shared,
-    number: u32,
-    reader: &mut T::Reader,
-    own: &mut S::Own,
-    shot: &Shot,
-    height: u32,
-    line: usize,
-    gate: &G,
-    kept: &mut Items<RowJob>,
-    counts: &mut [u32],
-)
-    requires may { T.may_draw table.now shot.now.geometry.now number reader.old }
-    requires of { S.is_of rows.now height line own.old }
-    requires height { height ≡ shot.now.path.now.height }
-    requires line { line ≡ row_length shot.now.depth shot.now.path.now.width }
-    requires sides { ArePictureSides shot.now.path.now.width shot.now.path.now.height }
-    requires depth { IsDepth shot.now.depth }
-    requires picture { shot.now.picture < length shot.now.path.now.cameras }
-    requires none { kept.old.elements ≡ [] }
-    requires spare { height ≤ kept.old.spare }
-    requires pages { length counts.old ≡ pages_of shot.now.geometry.now }
-    requires zero { (p : ℕ) → p < length counts.old → slice_index counts.old p ≡ 0 }
-    ensures may { T.may_draw table.now shot.now.geometry.now number reader.new }
-    ensures of { S.is_of rows.now height line own.new }
-    ensures start { T.start reader.new ≡ T.start reader.old }
-    ensures drew { T.drew_rows reader.old reader.new (reverse (versions_of kept.new.elements)) }
-    ensures took { S.took height line own.old own.new (rows_of kept.new.elements) }
-    ensures ended { S.ended height line own.old own.new (rows_of kept.new.elements) }
-    ensures drawn { All (IsDrawnRow T.PageTable P.Filter shot.now.geometry.now shot.now.depth shot.now.path.now shot.now.picture height line
-        number reader.old reader.new) kept.new.elements }
-    ensures rising { VersionsRise kept.new.elements }
-    ensures counted { (p : ℕ) → p < length counts.new → slice_index counts.new p
-        ≡ wants_in_rows P.wants shot.now.geometry.now shot.now.path.now shot.now.picture (rows_of kept.new.elements) p }
-{
-    for _ in 0..height {
-        let Some(job) = S::next::<R>(rt, rows, own, height, line) else {
-            return;
+impl<'a, T: PageTable, S: Schedule, P: Filter, G: Gate, R: Wait> Turns
+    for PassTurns<'a, T, S, P, G, R> {
+    ghost use Rattle.vt_schedules.specs.SharedRows.{rows_of};
+    ghost use Rattle.vt_pass_rows.specs.PassTurns.{TookRows, TookAll};
+
+    type Hand = PassSampler<T, S>;
+
+    ghost most = { λ t. t.height };
+
+    ghost drew = { λ t n a b. TookRows T.PageTable S.Schedule P.Filter t.table.now t.rows.now t.shot.now.geometry.now t.shot.now.depth
+        t.shot.now.path.now t.shot.now.picture t.height t.line n a b };
+
+    ghost drew_all = { λ t a b. TookAll T.PageTable S.Schedule P.Filter t.table.now t.rows.now t.shot.now.geometry.now t.shot.now.depth
+        t.shot.now.path.now t.shot.now.picture t.height t.line a b };
+
+    fn draw_next(&self, _turn: u32, hand: &mut PassSampler<T, S>) -> bool {
+        let Some(job) = S::next::<R>(self.rt, self.rows, &mut hand.own, self.height, self.line)
+        else {
+            return false;
         };
-        let drawn = draw_job::<T, P, G, R>(rt, table, number, reader, job, shot, gate, counts);
-        kept.push(drawn);
+        let drawn = draw_job::<T, P, G, R>(
+            self.rt,
+            self.table,
+            hand.number,
+            &mut hand.reader,
+            job,
+            self.shot,
+            self.gate,
+            hand.counts.as_mut_slice(),
+        );
+        hand.kept.push(drawn);
+        true
     }
+
+    ghost all_drawn = { λ t a b drew. record {
+      turns = t.height;
+      drew = drew;
+      ended = S.all_taken t.height t.line a.own b.own (rows_of b.kept.elements) drew.took drew.enough;
+    } };
 }

@@ -4,11 +4,12 @@ ghost use Rattle.std.specs.Prelude.{◌≡◌, ℕ, ◌<◌, length, slice_index
 ghost use Rattle.vt_schedules.specs.Samplers.{row_length};
 ghost use Rattle.vt_pass_rows.specs.PassSamplers.{MayDraw, HasDrawn};
 
-use crate::rows::{draw_rows, size_of};
+use crate::rows::{PassTurns, size_of};
+use std::marker::PhantomData;
 use std::sync::Wait;
 use vt_outside::{Gate, Items};
 use vt_page_table::{Filter, PageTable, Shot};
-use vt_schedules::{RowJob, Schedule};
+use vt_schedules::{RowJob, Schedule, draw_all};
 
 /// A sampler of a pass.
 #[derive(Drop)]
@@ -51,19 +52,16 @@ impl<T: PageTable, S: Schedule> PassSampler<T, S> {
         let (height, line) = size_of(shot);
         clear(self.counts.as_mut_slice());
         T::enter::<R>(rt, table, self.number, &mut self.reader);
-        draw_rows::<T, S, P, G, R>(
+        let turns = PassTurns::<'_, T, S, P, G, R> {
             rt,
             table,
             rows,
-            self.number,
-            &mut self.reader,
-            &mut self.own,
             shot,
             height,
             line,
             gate,
-            &mut self.kept,
-            self.counts.as_mut_slice(),
-        );
+            filter: PhantomData,
+        };
+        draw_all::<PassTurns<'_, T, S, P, G, R>>(&turns, height, self);
     }
 }

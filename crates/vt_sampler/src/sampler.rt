@@ -11,7 +11,7 @@ ghost use Rattle.vt_sampler.specs.Held.{WasHeld};
 ghost use Rattle.vt_sampler.specs.Notes.{IsTrueOf, TableMapsRoot};
 ghost use Rattle.vt_sampler.specs.Samplers.{SamplerView, IsOwn, IsFor, IsSampler, own_rows, row_length, row_at, version_at};
 
-use crate::held_rows::draw_held_rows;
+use crate::held_rows::{HeldRows, draw_held_rows};
 use crate::rows::{clear, draw_rows, set_all};
 use std::alloc::Global;
 use std::marker::Model;
@@ -30,10 +30,7 @@ pub struct Sampler {
     width: u32,
     height: u32,
     depth: u32,
-    versions: Vec<u64>,
-    // The rows one after the other, from the top.
-    bytes: Vec<u8>,
-    counts: Vec<u32>,
+    rows: HeldRows,
 }
 
 impl Model for Sampler {
@@ -47,9 +44,9 @@ impl Model for Sampler {
       width = s.width;
       height = s.height;
       depth = s.depth;
-      versions = s.versions.items;
-      bytes = s.bytes.items;
-      counts = s.counts.items;
+      versions = s.rows.versions.items;
+      bytes = s.rows.bytes.items;
+      counts = s.rows.counts.items;
     } };
 
     ghost invariant = { λ s. IsSampler (record {
@@ -58,9 +55,9 @@ impl Model for Sampler {
       width = s.width;
       height = s.height;
       depth = s.depth;
-      versions = s.versions.items;
-      bytes = s.bytes.items;
-      counts = s.counts.items;
+      versions = s.rows.versions.items;
+      bytes = s.rows.bytes.items;
+      counts = s.rows.counts.items;
     }) };
 }
 
@@ -93,9 +90,12 @@ impl Sampler {
             width: path.width(),
             height: path.height(),
             depth,
-            versions,
-            bytes,
-            counts,
+            rows: HeldRows {
+                pass: None,
+                versions,
+                bytes,
+                counts,
+            },
         })
     }
 
@@ -119,15 +119,15 @@ impl Sampler {
         ensures sampler { (self.new.sampler ≡ self.old.sampler) × (self.new.samplers ≡ self.old.samplers) }
         ensures for_it { IsFor self.new shot.now.geometry.now shot.now.path.now shot.now.depth }
     {
-        clear(self.counts.as_mut_slice());
-        set_all(self.versions.as_mut_slice(), table.journal().version());
+        clear(self.rows.counts.as_mut_slice());
+        set_all(self.rows.versions.as_mut_slice(), table.journal().version());
         draw_rows(
             table,
             shot,
             self.sampler,
             self.samplers,
-            self.bytes.as_mut_slice(),
-            self.counts.as_mut_slice(),
+            self.rows.bytes.as_mut_slice(),
+            self.rows.counts.as_mut_slice(),
         );
     }
 
@@ -167,7 +167,7 @@ impl Sampler {
         ensures sampler { (self.new.sampler ≡ self.old.sampler) × (self.new.samplers ≡ self.old.samplers) }
         ensures for_it { IsFor self.new shot.now.geometry.now shot.now.path.now shot.now.depth }
     {
-        clear(self.counts.as_mut_slice());
+        clear(self.rows.counts.as_mut_slice());
         draw_held_rows::<P, G>(
             pass,
             words,
@@ -175,9 +175,7 @@ impl Sampler {
             self.sampler,
             self.samplers,
             gate,
-            self.bytes.as_mut_slice(),
-            self.versions.as_mut_slice(),
-            self.counts.as_mut_slice(),
+            &mut self.rows,
         )
     }
 
@@ -217,7 +215,7 @@ impl Sampler {
     {
         let line = texel_length(self.depth) * self.width as usize;
         let at = turn_of(y, self.samplers) as usize * line;
-        &self.bytes[at..at + line]
+        &self.rows.bytes[at..at + line]
     }
 
     /// The version of the page table at which one of its rows was drawn, or 0 before the first.
@@ -225,13 +223,13 @@ impl Sampler {
         requires { IsOwn self.now y }
         ensures { result ≡ version_at self.now y }
     {
-        self.versions[turn_of(y, self.samplers) as usize]
+        self.rows.versions[turn_of(y, self.samplers) as usize]
     }
 
     /// How many texels its rows want of each page: with one texel a pixel, how many of their pixels want it.
     pub fn counts(&self) -> &[u32]
         ensures { result.now ≡ self.now.counts }
     {
-        self.counts.as_slice()
+        self.rows.counts.as_slice()
     }
 }

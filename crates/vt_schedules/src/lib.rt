@@ -17,3 +17,4 @@ pub use dealt::{Dealt, DealtHome, DealtWay, Nothing};
 pub use laws::each_row_is_taken_once;
 pub use schedule::Schedule;
 pub use shared::{BagHome, BagWay, Shared};
+pub use vt_sampler::{Turns, draw_all};

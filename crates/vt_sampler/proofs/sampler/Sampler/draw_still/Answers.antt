@@ -15,7 +15,7 @@ returns-clause-full c y own =
     let line : ℕ = row_length s.depth s.width in
     let for_it = subst (λ (v : SamplerView). IsFor v c.args.shot.now.geometry.now c.args.shot.now.path.now c.args.shot.now.depth) (sym c.self.view_is)
     c.requires.for_it in
-    let drawn = with_items_is s.bytes c.draw_rows.new.bytes (c.draw_rows.auto.bytes ∙ c.as_mut_slice-3.ensures.len) in
+    let drawn = with_items_is s.rows.bytes c.draw_rows.new.bytes (c.draw_rows.auto.bytes ∙ c.as_mut_slice-3.ensures.len) in
     let all : length c.draw_rows.new.bytes ≡ own_count s.sampler s.samplers s.height * line =
     c.draw_rows.auto.bytes ∙ ap length c.as_mut_slice-3.ensures.value ∙ c.self.invariant.room in
     ap (λ (bytes : List ℕ). length (row_in s.samplers line bytes y)) drawn
@@ -26,8 +26,8 @@ pub invariant_of-self : goal.invariant_of-self
 invariant_of-self c =
     let s = c.self.inside in
     let i = c.self.invariant in
-    let drawn = with_items_is s.bytes c.draw_rows.new.bytes (c.draw_rows.auto.bytes ∙ c.as_mut_slice-3.ensures.len) in
-    let versions = with_items_is s.versions c.set_all.new.versions (c.set_all.auto.versions ∙ c.as_mut_slice-2.ensures.len) in
+    let drawn = with_items_is s.rows.bytes c.draw_rows.new.bytes (c.draw_rows.auto.bytes ∙ c.as_mut_slice-3.ensures.len) in
+    let versions = with_items_is s.rows.versions c.set_all.new.versions (c.set_all.auto.versions ∙ c.as_mut_slice-2.ensures.len) in
     record {
       one_of = i.one_of;
       few = i.few;
@@ -54,17 +54,17 @@ draw_rows-requires-clause-pages c =
     let s = c.self.inside in
     let for_it = subst (λ (v : SamplerView). IsFor v c.args.shot.now.geometry.now c.args.shot.now.path.now c.args.shot.now.depth) (sym c.self.view_is)
     c.requires.for_it in
-    c.as_mut_slice-4.ensures.len ∙ s.counts.ok.0 ∙ for_it.pages
+    c.as_mut_slice-4.ensures.len ∙ s.rows.counts.ok.0 ∙ for_it.pages
 
 pub draw_rows-requires-clause-none : goal.draw_rows-requires-clause-none
 draw_rows-requires-clause-none c =
-    let cleared = with_items_is c.self.inside.counts c.clear.new.counts (c.clear.auto.counts ∙ c.as_mut_slice.ensures.len) in
+    let cleared = with_items_is c.self.inside.rows.counts c.clear.new.counts (c.clear.auto.counts ∙ c.as_mut_slice.ensures.len) in
     subst (λ (xs : List ℕ). (p : ℕ) → p < length xs → slice_index xs p ≡ 0) (sym (c.as_mut_slice-4.ensures.value ∙ cleared)) c.clear.ensures
 
 pub returns-clause-version : goal.returns-clause-version
 returns-clause-version c y own =
     let s = c.self.inside in
-    let versions = with_items_is s.versions c.set_all.new.versions (c.set_all.auto.versions ∙ c.as_mut_slice-2.ensures.len) in
+    let versions = with_items_is s.rows.versions c.set_all.new.versions (c.set_all.auto.versions ∙ c.as_mut_slice-2.ensures.len) in
     let rows : length c.set_all.new.versions ≡ own_count s.sampler s.samplers s.height =
     c.set_all.auto.versions ∙ ap length c.as_mut_slice-2.ensures.value ∙ c.self.invariant.rows in
     let inside : y / s.samplers < length c.set_all.new.versions =
@@ -77,7 +77,7 @@ returns-clause-drawn c y own =
     let s = c.self.inside in
     let for_it = subst (λ (v : SamplerView). IsFor v c.args.shot.now.geometry.now c.args.shot.now.path.now c.args.shot.now.depth) (sym c.self.view_is)
     c.requires.for_it in
-    let drawn = with_items_is s.bytes c.draw_rows.new.bytes (c.draw_rows.auto.bytes ∙ c.as_mut_slice-3.ensures.len) in
+    let drawn = with_items_is s.rows.bytes c.draw_rows.new.bytes (c.draw_rows.auto.bytes ∙ c.as_mut_slice-3.ensures.len) in
     let version = returns-clause-version c y own in
     let D : ℕ → List ℕ → Type 0 = λ n row. AreDrawn c.args.shot.now.geometry.now c.args.shot.now.depth n (IsTrueOf c.args.table.now)
     (shot_row c.args.shot.now.geometry.now c.args.shot.now.path.now c.args.shot.now.picture y) c.args.shot.now.path.now.width row in
@@ -85,7 +85,7 @@ returns-clause-drawn c y own =
     ∙ ap (λ (n : ℕ). row_in s.samplers (row_length n s.width) c.draw_rows.new.bytes y) for_it.depth
     ∙ ap (λ (n : ℕ). row_in s.samplers (row_length c.args.shot.now.depth n) c.draw_rows.new.bytes y) for_it.width in
     let inside : y < c.args.shot.now.path.now.height = subst (λ (n : ℕ). y < n) for_it.height own.inside in
-    subst (λ (n : ℕ). D n (row_in s.samplers (row_length s.depth s.width) (with_items s.bytes c.draw_rows.new.bytes).items y)) (sym version)
+    subst (λ (n : ℕ). D n (row_in s.samplers (row_length s.depth s.width) (with_items s.rows.bytes c.draw_rows.new.bytes).items y)) (sym version)
     (subst (λ (l : List ℕ). D (length c.args.table.now.changes) l) (sym row) (c.draw_rows.ensures.drawn y inside own.own))
 
 pub returns-clause-counted : goal.returns-clause-counted
@@ -93,7 +93,7 @@ returns-clause-counted c =
     let s = c.self.inside in
     let for_it = subst (λ (v : SamplerView). IsFor v c.args.shot.now.geometry.now c.args.shot.now.path.now c.args.shot.now.depth) (sym c.self.view_is)
     c.requires.for_it in
-    let counts = with_items_is (with_items s.counts c.clear.new.counts) c.draw_rows.new.counts (c.draw_rows.auto.counts ∙ c.as_mut_slice-4.ensures.len) in
+    let counts = with_items_is (with_items s.rows.counts c.clear.new.counts) c.draw_rows.new.counts (c.draw_rows.auto.counts ∙ c.as_mut_slice-4.ensures.len) in
     let Counted : ℕ → List ℕ → Type 0 = λ n xs. (p : ℕ) → p < length xs
     → slice_index xs p ≡ pixels_in_rows c.args.shot.now.geometry.now c.args.shot.now.path.now c.args.shot.now.picture (own_rows s.sampler s.samplers n) p in
     subst (λ (xs : List ℕ). Counted s.height xs) (sym counts)
@@ -107,10 +107,10 @@ returns-clause-for_it c =
     let s = c.self.inside in
     let for_it = subst (λ (v : SamplerView). IsFor v c.args.shot.now.geometry.now c.args.shot.now.path.now c.args.shot.now.depth) (sym c.self.view_is)
     c.requires.for_it in
-    let counts = with_items_is (with_items s.counts c.clear.new.counts) c.draw_rows.new.counts (c.draw_rows.auto.counts ∙ c.as_mut_slice-4.ensures.len) in
+    let counts = with_items_is (with_items s.rows.counts c.clear.new.counts) c.draw_rows.new.counts (c.draw_rows.auto.counts ∙ c.as_mut_slice-4.ensures.len) in
     record {
       width = for_it.width;
       height = for_it.height;
       depth = for_it.depth;
-      pages = ap length counts ∙ c.draw_rows.auto.counts ∙ c.as_mut_slice-4.ensures.len ∙ s.counts.ok.0 ∙ for_it.pages;
+      pages = ap length counts ∙ c.draw_rows.auto.counts ∙ c.as_mut_slice-4.ensures.len ∙ s.rows.counts.ok.0 ∙ for_it.pages;
     }
