@@ -121,14 +121,7 @@ impl Sampler {
     {
         clear(self.rows.counts.as_mut_slice());
         set_all(self.rows.versions.as_mut_slice(), table.journal().version());
-        draw_rows(
-            table,
-            shot,
-            self.sampler,
-            self.samplers,
-            self.rows.bytes.as_mut_slice(),
-            self.rows.counts.as_mut_slice(),
-        );
+        draw_rows(table, shot, self.sampler, self.samplers, &mut self.rows);
     }
 
     /// Draws its rows of a picture by a filter over a table of words, from the top, each in the newest version, which it holds

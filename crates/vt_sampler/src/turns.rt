@@ -1,4 +1,4 @@
-//! The rows of a picture that one sampler draws: one loop for words and for all page tables.
+//! The rows of a picture that one sampler draws: one loop for words, for a still table and for all page tables.
 
 ghost use Rattle.std.specs.Prelude.{◌≡◌, ℕ, ◌+◌, ◌<◌, false, true};
 

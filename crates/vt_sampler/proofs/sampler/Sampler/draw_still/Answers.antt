@@ -1,6 +1,5 @@
 use Rattle.std.proofs.Common.{◌≡◌, ◌<◌, ◌*◌, ◌/◌, List, ◌∙◌, ap, subst, sym, length, ℕ, arith}
 use Rattle.std.specs.Prelude.{slice_index}
-use Rattle.std.specs.Vec.{with_items}
 use Rattle.std.proofs.lemmas.List.{with_items_is}
 use Rattle.vt_lookup.specs.Shots.{shot_row, AreDrawn, pixels_in_rows}
 use Rattle.vt_sampler.specs.Notes.{IsTrueOf}
@@ -15,18 +14,15 @@ returns-clause-full c y own =
     let line : ℕ = row_length s.depth s.width in
     let for_it = subst (λ (v : SamplerView). IsFor v c.args.shot.now.geometry.now c.args.shot.now.path.now c.args.shot.now.depth) (sym c.self.view_is)
     c.requires.for_it in
-    let drawn = with_items_is s.rows.bytes c.draw_rows.new.bytes (c.draw_rows.auto.bytes ∙ c.as_mut_slice-3.ensures.len) in
-    let all : length c.draw_rows.new.bytes ≡ own_count s.sampler s.samplers s.height * line =
-    c.draw_rows.auto.bytes ∙ ap length c.as_mut_slice-3.ensures.value ∙ c.self.invariant.room in
-    ap (λ (bytes : List ℕ). length (row_in s.samplers line bytes y)) drawn
-    ∙ own_full s.sampler s.samplers s.height line y c.draw_rows.new.bytes c.self.invariant.one_of own.inside own.own all
+    let bytes : List ℕ = c.draw_rows.new.rows.bytes.items in
+    let all : length bytes ≡ own_count s.sampler s.samplers s.height * line = c.draw_rows.ensures.bytes ∙ c.self.invariant.room in
+    own_full s.sampler s.samplers s.height line y bytes c.self.invariant.one_of own.inside own.own all
     ∙ (λ i. row_length (for_it.depth i) (for_it.width i))
 
 pub invariant_of-self : goal.invariant_of-self
 invariant_of-self c =
     let s = c.self.inside in
     let i = c.self.invariant in
-    let drawn = with_items_is s.rows.bytes c.draw_rows.new.bytes (c.draw_rows.auto.bytes ∙ c.as_mut_slice-3.ensures.len) in
     let versions = with_items_is s.rows.versions c.set_all.new.versions (c.set_all.auto.versions ∙ c.as_mut_slice-2.ensures.len) in
     record {
       one_of = i.one_of;
@@ -34,8 +30,8 @@ invariant_of-self c =
       sides = i.sides;
       low_depth = i.low_depth;
       high_depth = i.high_depth;
-      rows = ap length versions ∙ c.set_all.auto.versions ∙ ap length c.as_mut_slice-2.ensures.value ∙ i.rows;
-      room = ap length drawn ∙ c.draw_rows.auto.bytes ∙ ap length c.as_mut_slice-3.ensures.value ∙ i.room;
+      rows = ap length (c.draw_rows.ensures.versions ∙ versions) ∙ c.set_all.auto.versions ∙ ap length c.as_mut_slice-2.ensures.value ∙ i.rows;
+      room = c.draw_rows.ensures.bytes ∙ i.room;
     }
 
 pub draw_rows-requires-clause-bytes : goal.draw_rows-requires-clause-bytes
@@ -44,7 +40,7 @@ draw_rows-requires-clause-bytes c =
     let for_it = subst (λ (v : SamplerView). IsFor v c.args.shot.now.geometry.now c.args.shot.now.path.now c.args.shot.now.depth) (sym c.self.view_is)
     c.requires.for_it in
     let rows : ℕ = own_count s.sampler s.samplers c.args.shot.now.path.now.height in
-    ap length c.as_mut_slice-3.ensures.value ∙ c.self.invariant.room
+    c.self.invariant.room
     ∙ ap (λ (n : ℕ). own_count s.sampler s.samplers n * row_length s.depth s.width) for_it.height
     ∙ ap (λ (n : ℕ). rows * row_length n s.width) for_it.depth
     ∙ ap (λ (n : ℕ). rows * row_length c.args.shot.now.depth n) for_it.width
@@ -54,12 +50,14 @@ draw_rows-requires-clause-pages c =
     let s = c.self.inside in
     let for_it = subst (λ (v : SamplerView). IsFor v c.args.shot.now.geometry.now c.args.shot.now.path.now c.args.shot.now.depth) (sym c.self.view_is)
     c.requires.for_it in
-    c.as_mut_slice-4.ensures.len ∙ s.rows.counts.ok.0 ∙ for_it.pages
+    let cleared = with_items_is s.rows.counts c.clear.new.counts (c.clear.auto.counts ∙ c.as_mut_slice.ensures.len) in
+    ap length cleared ∙ c.clear.auto.counts ∙ ap length c.as_mut_slice.ensures.value ∙ for_it.pages
 
 pub draw_rows-requires-clause-none : goal.draw_rows-requires-clause-none
 draw_rows-requires-clause-none c =
-    let cleared = with_items_is c.self.inside.rows.counts c.clear.new.counts (c.clear.auto.counts ∙ c.as_mut_slice.ensures.len) in
-    subst (λ (xs : List ℕ). (p : ℕ) → p < length xs → slice_index xs p ≡ 0) (sym (c.as_mut_slice-4.ensures.value ∙ cleared)) c.clear.ensures
+    let s = c.self.inside in
+    let cleared = with_items_is s.rows.counts c.clear.new.counts (c.clear.auto.counts ∙ c.as_mut_slice.ensures.len) in
+    subst (λ (xs : List ℕ). (p : ℕ) → p < length xs → slice_index xs p ≡ 0) (sym cleared) c.clear.ensures
 
 pub returns-clause-version : goal.returns-clause-version
 returns-clause-version c y own =
@@ -69,7 +67,7 @@ returns-clause-version c y own =
     c.set_all.auto.versions ∙ ap length c.as_mut_slice-2.ensures.value ∙ c.self.invariant.rows in
     let inside : y / s.samplers < length c.set_all.new.versions =
     omega (arith, own_fits s.sampler s.samplers s.height y c.self.invariant.one_of own.inside own.own, rows) in
-    ap (λ (xs : List ℕ). slice_index xs (y / s.samplers)) versions ∙ c.set_all.ensures (y / s.samplers) inside
+    ap (λ (xs : List ℕ). slice_index xs (y / s.samplers)) (c.draw_rows.ensures.versions ∙ versions) ∙ c.set_all.ensures (y / s.samplers) inside
     ∙ c.version.ensures.version ∙ ap length c.journal.ensures.changes
 
 pub returns-clause-drawn : goal.returns-clause-drawn
@@ -77,15 +75,14 @@ returns-clause-drawn c y own =
     let s = c.self.inside in
     let for_it = subst (λ (v : SamplerView). IsFor v c.args.shot.now.geometry.now c.args.shot.now.path.now c.args.shot.now.depth) (sym c.self.view_is)
     c.requires.for_it in
-    let drawn = with_items_is s.rows.bytes c.draw_rows.new.bytes (c.draw_rows.auto.bytes ∙ c.as_mut_slice-3.ensures.len) in
+    let bytes : List ℕ = c.draw_rows.new.rows.bytes.items in
     let version = returns-clause-version c y own in
     let D : ℕ → List ℕ → Type 0 = λ n row. AreDrawn c.args.shot.now.geometry.now c.args.shot.now.depth n (IsTrueOf c.args.table.now)
     (shot_row c.args.shot.now.geometry.now c.args.shot.now.path.now c.args.shot.now.picture y) c.args.shot.now.path.now.width row in
-    let row = ap (λ (bytes : List ℕ). row_in s.samplers (row_length s.depth s.width) bytes y) drawn
-    ∙ ap (λ (n : ℕ). row_in s.samplers (row_length n s.width) c.draw_rows.new.bytes y) for_it.depth
-    ∙ ap (λ (n : ℕ). row_in s.samplers (row_length c.args.shot.now.depth n) c.draw_rows.new.bytes y) for_it.width in
+    let row = ap (λ (n : ℕ). row_in s.samplers (row_length n s.width) bytes y) for_it.depth
+    ∙ ap (λ (n : ℕ). row_in s.samplers (row_length c.args.shot.now.depth n) bytes y) for_it.width in
     let inside : y < c.args.shot.now.path.now.height = subst (λ (n : ℕ). y < n) for_it.height own.inside in
-    subst (λ (n : ℕ). D n (row_in s.samplers (row_length s.depth s.width) (with_items s.rows.bytes c.draw_rows.new.bytes).items y)) (sym version)
+    subst (λ (n : ℕ). D n (row_in s.samplers (row_length s.depth s.width) bytes y)) (sym version)
     (subst (λ (l : List ℕ). D (length c.args.table.now.changes) l) (sym row) (c.draw_rows.ensures.drawn y inside own.own))
 
 pub returns-clause-counted : goal.returns-clause-counted
@@ -93,11 +90,10 @@ returns-clause-counted c =
     let s = c.self.inside in
     let for_it = subst (λ (v : SamplerView). IsFor v c.args.shot.now.geometry.now c.args.shot.now.path.now c.args.shot.now.depth) (sym c.self.view_is)
     c.requires.for_it in
-    let counts = with_items_is (with_items s.rows.counts c.clear.new.counts) c.draw_rows.new.counts (c.draw_rows.auto.counts ∙ c.as_mut_slice-4.ensures.len) in
-    let Counted : ℕ → List ℕ → Type 0 = λ n xs. (p : ℕ) → p < length xs
-    → slice_index xs p ≡ pixels_in_rows c.args.shot.now.geometry.now c.args.shot.now.path.now c.args.shot.now.picture (own_rows s.sampler s.samplers n) p in
-    subst (λ (xs : List ℕ). Counted s.height xs) (sym counts)
-    (subst (λ (n : ℕ). Counted n c.draw_rows.new.counts) (sym for_it.height) c.draw_rows.ensures.counted)
+    let counts : List ℕ = c.draw_rows.new.rows.counts.items in
+    subst (λ (n : ℕ). (p : ℕ) → p < length counts
+    → slice_index counts p ≡ pixels_in_rows c.args.shot.now.geometry.now c.args.shot.now.path.now c.args.shot.now.picture (own_rows s.sampler s.samplers n) p)
+    (sym for_it.height) c.draw_rows.ensures.counted
 
 pub returns-clause-sampler : goal.returns-clause-sampler
 returns-clause-sampler c = (ap (λ (v : SamplerView). v.sampler) c.self.view_is, ap (λ (v : SamplerView). v.samplers) c.self.view_is)
@@ -107,10 +103,10 @@ returns-clause-for_it c =
     let s = c.self.inside in
     let for_it = subst (λ (v : SamplerView). IsFor v c.args.shot.now.geometry.now c.args.shot.now.path.now c.args.shot.now.depth) (sym c.self.view_is)
     c.requires.for_it in
-    let counts = with_items_is (with_items s.rows.counts c.clear.new.counts) c.draw_rows.new.counts (c.draw_rows.auto.counts ∙ c.as_mut_slice-4.ensures.len) in
+    let cleared = with_items_is s.rows.counts c.clear.new.counts (c.clear.auto.counts ∙ c.as_mut_slice.ensures.len) in
     record {
       width = for_it.width;
       height = for_it.height;
       depth = for_it.depth;
-      pages = ap length counts ∙ c.draw_rows.auto.counts ∙ c.as_mut_slice-4.ensures.len ∙ s.rows.counts.ok.0 ∙ for_it.pages;
+      pages = c.draw_rows.ensures.pages ∙ ap length cleared ∙ c.clear.auto.counts ∙ ap length c.as_mut_slice.ensures.value ∙ for_it.pages;
     }
