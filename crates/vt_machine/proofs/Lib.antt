@@ -20,3 +20,4 @@ pub mod AnyOrder
 pub mod Halves
 pub mod Lent
 pub mod Ready
+pub mod LaidWorkers

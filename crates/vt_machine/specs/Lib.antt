@@ -31,3 +31,4 @@ pub mod Machines
 pub mod Passes
 pub mod Jobs
 pub mod All
+pub mod Roles

@@ -9,7 +9,7 @@ use vt_outside::Gate;
 use vt_pictures::Shot;
 
 /// A part of a pass that one worker does: it changes itself alone, and reads what it shares with the other workers, an `S`.
-pub trait Task<S: Sync> {
+pub trait Task<S> {
     /// Whether each of several samplers has a thread of its own, however small the picture is.
     const ALONE: bool = false;
 

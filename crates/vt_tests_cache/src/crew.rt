@@ -39,8 +39,8 @@ impl<'a> Work for Meeting<'a> {
     }
 }
 
-// Whether a count comes to so much in time.
-fn comes_to(count: &AtomicU64, least: u64) -> bool {
+/// Whether a count comes to so much in time.
+pub fn comes_to(count: &AtomicU64, least: u64) -> bool {
     for _ in 0..TURNS {
         if count.load(SeqCst) >= least {
             return true;
@@ -48,6 +48,16 @@ fn comes_to(count: &AtomicU64, least: u64) -> bool {
         thread::yield_now();
     }
     false
+}
+
+/// Waits until all hands serve, or until it has looked often enough.
+pub fn wait_for_hands<J: Work>(desks: &Desks<J>) {
+    for _ in 0..TURNS {
+        if desks.are_served() {
+            return;
+        }
+        thread::yield_now();
+    }
 }
 
 // Two rounds of the same jobs, once the hands are there.
@@ -62,12 +72,7 @@ impl<'a> Errand<Meeting<'a>> for Rounds<'a> {
     ghost did = { λ before after. Unit {0} };
 
     fn run<Rt: Threads + Wait>(&mut self, rt: &Rt, desks: &mut Desks<Meeting<'a>>) {
-        for _ in 0..TURNS {
-            if desks.are_served() {
-                break;
-            }
-            thread::yield_now();
-        }
+        wait_for_hands(desks);
         desks.work_all(rt, &mut self.jobs);
         desks.work_all(rt, &mut self.jobs);
     }

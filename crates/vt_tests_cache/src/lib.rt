@@ -1,4 +1,5 @@
-//! The tests of the crates that make the cache, from the journal and the counts of wanted pages to the loaders of tiles, and of crews of threads.
+//! The tests of the crates that make the cache, from the journal and the counts of wanted pages to the loaders of tiles, and of crews of threads and
+//! passes by them.
 //! It holds nothing else, and nothing depends on it: a crate with tests is proved twice, and this one costs nothing beside them.
 #![tactic(auto)]
 
@@ -6,6 +7,8 @@
 mod checks;
 #[cfg(test)]
 mod crew;
+#[cfg(test)]
+mod crewed;
 #[cfg(test)]
 mod evict;
 #[cfg(test)]
