@@ -93,7 +93,7 @@ impl<'a, T: PageTable, S: Schedule, P: Filter, G: Gate, R: Wait> Turns
     ghost use Rattle.vt_schedules.specs.SharedRows.{rows_of};
     ghost use Rattle.vt_pass_rows.specs.PassTurns.{TookRows, TookAll};
 
-    type Hand = PassSampler<T, S>;
+    type State = PassSampler<T, S>;
 
     ghost most = { λ t. t.height };
 
@@ -103,22 +103,22 @@ impl<'a, T: PageTable, S: Schedule, P: Filter, G: Gate, R: Wait> Turns
     ghost drew_all = { λ t a b. TookAll T.PageTable S.Schedule P.Filter t.table.now t.rows.now t.shot.now.geometry.now t.shot.now.depth
         t.shot.now.path.now t.shot.now.picture t.height t.line a b };
 
-    fn draw_next(&self, _turn: u32, hand: &mut PassSampler<T, S>) -> bool {
-        let Some(job) = S::next::<R>(self.rt, self.rows, &mut hand.own, self.height, self.line)
+    fn draw_next(&self, _turn: u32, state: &mut PassSampler<T, S>) -> bool {
+        let Some(job) = S::next::<R>(self.rt, self.rows, &mut state.own, self.height, self.line)
         else {
             return false;
         };
         let drawn = draw_job::<T, P, G, R>(
             self.rt,
             self.table,
-            hand.number,
-            &mut hand.reader,
+            state.number,
+            &mut state.reader,
             job,
             self.shot,
             self.gate,
-            hand.counts.as_mut_slice(),
+            state.counts.as_mut_slice(),
         );
-        hand.kept.push(drawn);
+        state.kept.push(drawn);
         true
     }
 

@@ -87,7 +87,7 @@ impl<'a, P: Filter, G: Gate> Turns for HeldTurns<'a, P, G> {
     ghost use Rattle.vt_definitions.specs.Dealing.{own_count};
     ghost use Rattle.vt_sampler.specs.HeldTurns.{HasDrawnTurns};
 
-    type Hand = HeldRows;
+    type State = HeldRows;
 
     ghost most = { λ t. own_count t.sampler t.samplers t.shot.now.path.now.height };
 
@@ -97,19 +97,19 @@ impl<'a, P: Filter, G: Gate> Turns for HeldTurns<'a, P, G> {
     ghost drew_all = { λ t a b. HasDrawnTurns P.Filter t.words.now t.shot.now.geometry.now t.shot.now.path.now t.shot.now.picture t.shot.now.depth
         t.sampler t.samplers t.line (own_count t.sampler t.samplers t.shot.now.path.now.height) a b };
 
-    fn draw_next(&self, turn: u32, hand: &mut HeldRows) -> bool {
-        let pass = mem::replace(&mut hand.pass, None);
+    fn draw_next(&self, turn: u32, state: &mut HeldRows) -> bool {
+        let pass = mem::replace(&mut state.pass, None);
         match pass {
             Some(pass) => {
                 let next = draw_turn::<P, G>(
                     self,
                     turn,
                     pass,
-                    hand.versions.as_mut_slice(),
-                    hand.bytes.as_mut_slice(),
-                    hand.counts.as_mut_slice(),
+                    state.versions.as_mut_slice(),
+                    state.bytes.as_mut_slice(),
+                    state.counts.as_mut_slice(),
                 );
-                hand.pass = Some(next);
+                state.pass = Some(next);
                 true
             }
             None => unreachable!(),

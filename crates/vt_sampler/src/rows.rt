@@ -81,7 +81,7 @@ impl<'a> Turns for StillTurns<'a> {
     ghost use Rattle.vt_definitions.specs.Dealing.{own_count};
     ghost use Rattle.vt_sampler.specs.StillTurns.{HasDrawnStill};
 
-    type Hand = HeldRows;
+    type State = HeldRows;
 
     ghost most = { λ t. own_count t.sampler t.samplers t.shot.now.path.now.height };
 
@@ -92,12 +92,12 @@ impl<'a> Turns for StillTurns<'a> {
         t.sampler t.samplers t.line (own_count t.sampler t.samplers t.shot.now.path.now.height) b.bytes.items b.counts.items
         × (b.versions.items ≡ a.versions.items) };
 
-    fn draw_next(&self, turn: u32, hand: &mut HeldRows) -> bool {
+    fn draw_next(&self, turn: u32, state: &mut HeldRows) -> bool {
         draw_turn(
             self,
             turn,
-            hand.bytes.as_mut_slice(),
-            hand.counts.as_mut_slice(),
+            state.bytes.as_mut_slice(),
+            state.counts.as_mut_slice(),
         );
         true
     }

@@ -26,7 +26,7 @@ draw_job-drawn-requires-clause-room g c =
     let path = t.shot.now.path.now in
     let picture = t.shot.now.picture in
     let wants = g.P.Filter.wants in
-    let kept = c.args.hand.now.kept.elements in
+    let kept = c.args.state.now.kept.elements in
     subst (λ (xs : List ℕ). (p : ℕ) → p < length xs → slice_index xs p + 4 * path.width < 2 ^ 32) (sym c.as_mut_slice.ensures.value)
     (λ p inside.
     let few : (z : ℕ) → wants s (shot_row s path picture z) path.width p ≤ 4 * path.width = λ z.
@@ -47,9 +47,9 @@ returns-clause-drew g c is a i =
     let table = g.T.PageTable in
     let laws = g.met.T.PageTable in
     let first = a.reader in
-    let q = c.args.hand.now.reader in
+    let q = c.args.state.now.reader in
     let r = c.draw_job-drawn.new.reader in
-    let kept = c.args.hand.now.kept.elements in
+    let kept = c.args.state.now.kept.elements in
     let taken = c.in-Some.job in
     let e = c.draw_job-drawn.ensures in
     let now = c.draw_job-drawn.result in
@@ -59,8 +59,8 @@ returns-clause-drew g c is a i =
       full = e.full ∙ c.in-Some.ensures.fits.full;
     } in
     let all : c.push.new.self.elements ≡ kept ++ now ∷ [] = c.push.ensures.elements in
-    let counts = with_items_is c.args.hand.now.counts c.draw_job-drawn.new.counts (c.draw_job-drawn.auto.counts ∙ c.as_mut_slice.ensures.len) in
-    let number : length c.draw_job-drawn.new.counts ≡ length c.args.hand.now.counts.items =
+    let counts = with_items_is c.args.state.now.counts c.draw_job-drawn.new.counts (c.draw_job-drawn.auto.counts ∙ c.as_mut_slice.ensures.len) in
+    let number : length c.draw_job-drawn.new.counts ≡ length c.args.state.now.counts.items =
     c.draw_job-drawn.auto.counts ∙ ap length c.as_mut_slice.ensures.value in
     let Before : List ℕ → Type 0 = λ xs. (p : ℕ) → p < length xs → slice_index xs p ≡ wants_in_rows g.P.Filter.wants s path picture (rows_of kept) p in
     let before = subst Before (sym c.as_mut_slice.ensures.value) i.counted in

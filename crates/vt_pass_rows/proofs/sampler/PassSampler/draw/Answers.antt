@@ -60,7 +60,7 @@ returns g c =
     let d = did.drew in
     let size = c.size_of-height.ensures in
     let cleared = with_items_is a.counts c.clear.new.counts (c.clear.auto.counts ∙ c.as_mut_slice.ensures.len) in
-    let b = c.draw_all.new.hand in
+    let b = c.draw_all.new.state in
     let e = c.enter.ensures in
     let both : (c.size_of-height.result.0, c.size_of-height.result.1) ≡ (_, _) = λ j. (size.height j, size.line j) in
     record {

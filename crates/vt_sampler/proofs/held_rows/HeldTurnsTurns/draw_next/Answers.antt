@@ -9,7 +9,7 @@ pub draw_turn-next-requires-clause-may : goal.draw_turn-next-requires-clause-may
 draw_turn-next-requires-clause-may g c =
     let t = c.args.self.now in
     let d = c.requires.drew.1 in
-    let is : c.args.hand.now.pass ≡ Some c.in-Some.pass = sym c.replace-pass.ensures.value ∙ c.in-Some.is in
+    let is : c.args.state.now.pass ≡ Some c.in-Some.pass = sym c.replace-pass.ensures.value ∙ c.in-Some.is in
     let same = same_Some d.last c.in-Some.pass (sym d.has ∙ is) in
     subst (λ (z : PassValue × List ℕ × List ℕ × List ℕ). MayDrawTurn g.P.Filter t.words.now t.shot.now.geometry.now t.shot.now.path.now
     t.shot.now.picture t.shot.now.depth t.sampler t.samplers t.line c.args.turn z.0 z.1 z.2 z.3)
@@ -18,7 +18,7 @@ draw_turn-next-requires-clause-may g c =
 pub returns-clause-drew : goal.returns-clause-drew
 returns-clause-drew g c so a d =
     let t = c.args.self.now in
-    let h = c.args.hand.now in
+    let h = c.args.state.now in
     let did = c.draw_turn-next in
     let is : h.pass ≡ Some c.in-Some.pass = sym c.replace-pass.ensures.value ∙ c.in-Some.is in
     let same = same_Some d.last c.in-Some.pass (sym d.has ∙ is) in

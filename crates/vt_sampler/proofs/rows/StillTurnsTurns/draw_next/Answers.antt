@@ -13,7 +13,7 @@ draw_turn-requires-clause-drew c =
 pub returns-clause-drew : goal.returns-clause-drew
 returns-clause-drew c so a d =
     let t = c.args.self.now in
-    let h = c.args.hand.now in
+    let h = c.args.state.now in
     let did = c.draw_turn in
     let bytes = with_items_is h.bytes did.new.bytes (did.auto.bytes ∙ c.as_mut_slice.ensures.len) in
     let counts = with_items_is h.counts did.new.counts (did.auto.counts ∙ c.as_mut_slice-2.ensures.len) in (
