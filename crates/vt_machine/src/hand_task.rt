@@ -1,4 +1,4 @@
-//! What a worker of a pass does that may be in a hand's thread.
+//! What a loader or a sampler of a pass does, in whatever thread.
 
 ghost use Rattle.std.specs.Prelude.{List};
 ghost use Rattle.vt_evict.specs.PlanTypes.batches.Planned.{Planned};
@@ -9,9 +9,12 @@ use std::thread::Threads;
 use vt_outside::Gate;
 use vt_pictures::Shot;
 
-/// A part of a pass that a loader or a sampler does, here or in a hand's thread: it changes itself alone, and reads what it shares with the other
+/// A part of a pass that a loader or a sampler does, in the caller's thread or in another: it changes itself alone, and reads what it shares with the other
 /// workers, an `S`. It is told no batch, which goes to no hand.
 pub trait HandTask<S> {
+    /// Whether each of several samplers has a thread of its own, however small the picture is.
+    const ALONE: bool = false;
+
     /// It may begin, on what is shared and for the pass's job.
     ghost ready: { S → Job → Self → Type 0 };
 

@@ -24,9 +24,10 @@ pub use laws::{
     settled_pass_is_plain,
 };
 pub use lent_worker::{LentWorker, Role};
-pub use machine::PassMachine;
+pub use machine::{PassMachine, SentMachine};
 pub use meanwhile::{Meanwhile, Nothing};
 pub use task::Task;
+pub use vt_crew::{Desks, Errand, run_with_crew};
 pub use vt_evict::{Batch, Counts as FeedbackCounts, Losses, Planned};
 pub use vt_pictures::{Events, Journal, Path, RowLines, Shot};
 pub use work::work_together;

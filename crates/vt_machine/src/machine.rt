@@ -2,6 +2,7 @@
 
 ghost use Rattle.std.specs.Prelude.{◌≡◌, ℕ, ◌<◌, Bool, List, [], ◌++◌, length, Result, IfOk, IfErr, OnOk, OnErr};
 ghost use Rattle.std.specs.List.{concat};
+ghost use Rattle.std.specs.Arc.{arc_value};
 ghost use Rattle.vt_tiles.specs.Depths.{IsDepth};
 ghost use Rattle.vt_pages.specs.Pages.{IsWithinLimits};
 ghost use Rattle.vt_pictures.specs.Changes.{Table};
@@ -19,11 +20,15 @@ ghost use Rattle.vt_machine.specs.All.{AllReady, AllDid};
 ghost use Rattle.vt_pictures.specs.JournalTypes.changes.RowLine.{RowLine};
 
 use crate::crew::{Crew, PassReport};
+use crate::crewed::work_with_crew;
+use crate::hand_task::HandTask;
+use crate::lent_worker::LentWorker;
+use crate::meanwhile::Meanwhile;
 use crate::task::Task;
-use crate::work::work_together;
 use std::alloc::Global;
-use std::sync::Wait;
+use std::sync::{Arc, Wait};
 use std::thread::Threads;
+use vt_crew::Desks;
 use vt_evict::{Batch, Counts};
 use vt_outside::{File, Gate, Items, NoMemory};
 use vt_pages::Geometry;
@@ -45,16 +50,16 @@ pub trait PassMachine: Sized {
     type File: File + Send;
 
     /// What the workers of a pass share.
-    type Shared: Sync;
+    type Shared: Drop;
 
     /// A worker that reads tiles.
-    type Loader: Task<Self::Shared> + Send;
+    type Loader: HandTask<Self::Shared>;
 
     /// A worker that draws rows.
-    type Sampler: Task<Self::Shared> + Send;
+    type Sampler: HandTask<Self::Shared>;
 
     /// The worker that changes the page table while the samplers draw, if it is changed then.
-    type Streamer: Task<Self::Shared> + Send;
+    type Streamer: Task<Self::Shared>;
 
     /// Whether row y is always drawn by sampler y modulo their number.
     const DEALT: bool;
@@ -102,7 +107,7 @@ pub trait PassMachine: Sized {
 
     /// Makes a machine as `make` does, with the stores of a list, which it leaves empty. After a refusal the list has
     /// them all.
-    fn make_from<Rt: Threads + Wait + Sync>(
+    fn make_from<Rt: Threads + Wait>(
         rt: &Rt,
         alloc: Global,
         geometry: &Geometry,
@@ -127,7 +132,7 @@ pub trait PassMachine: Sized {
     /// The stores are cut as the geometry says, their samples have `depth` bytes, and all of them tell the same bytes
     /// or none does. The frames are from 1 to 65,535, and have at most 8,388,608 texels together. Of the path only the
     /// sides of its pictures count here.
-    final fn make<Rt: Threads + Wait + Sync>(
+    final fn make<Rt: Threads + Wait>(
         rt: &Rt,
         alloc: Global,
         geometry: &Geometry,
@@ -159,7 +164,7 @@ pub trait PassMachine: Sized {
 
     /// Maps a page to a frame that it fills with the page's tile, while no pass is prepared. Both are free, and the
     /// tile is the store's, where that is known. After a refusal nothing changed.
-    fn place<Rt: Threads + Wait + Sync>(
+    fn place<Rt: Threads + Wait>(
         &mut self,
         rt: &Rt,
         page: u32,
@@ -174,7 +179,7 @@ pub trait PassMachine: Sized {
 
     /// Makes room for a pass that streams a batch, which is lawful for the newest version and no longer than the crew's
     /// batches. After a refusal the machine can only be ended.
-    fn prepare<Rt: Threads + Wait + Sync>(&mut self, rt: &Rt, batch: &Batch) -> Result<(), NoMemory>
+    fn prepare<Rt: Threads + Wait>(&mut self, rt: &Rt, batch: &Batch) -> Result<(), NoMemory>
         requires idle { is_idle self.old }
         requires may { MayPrepare (state self.old) batch.now.elements }
         ensures ready { OnOk result (is_ready self.new batch.now.elements) }
@@ -199,11 +204,11 @@ pub trait PassMachine: Sized {
         ensures streamer { Self.Streamer.ready (lent self.new) (job_of shot.now batch.now.elements) result.2 };
 
     /// What the workers share.
-    fn shared(&self) -> &Self::Shared
-        ensures { result.now ≡ lent self.now };
+    fn shared(&self) -> &Arc<Self::Shared>
+        ensures { arc_value result.now ≡ lent self.now };
 
     /// Moves the workers back, does what they have left of the pass, and tells what the pass did.
-    fn reattach_workers<Rt: Threads + Wait + Sync, G: Gate + Sync>(
+    fn reattach_workers<Rt: Threads + Wait, G: Gate>(
         &mut self,
         rt: &Rt,
         loaders: Items<Self::Loader>,
@@ -218,31 +223,38 @@ pub trait PassMachine: Sized {
         ensures { reattached self.old (job_of shot.now batch.now.elements)
             loaders.elements samplers.elements streamer self.new result };
 
-    /// Runs the pass that is prepared for this batch: draws the picture of the shot and streams the batch. It may wait.
+    /// Runs the pass that is prepared for this batch: draws the picture of the shot and streams the batch, by hands at these desks as far as there
+    /// are some, and does meanwhile what the caller says. It may wait.
     ///
     /// After a refusal the machine can only be ended.
-    final fn run<Rt: Threads + Wait + Sync, G: Gate + Sync>(
+    final fn run<'w, Rt: Threads + Wait, G: Gate, A: Meanwhile>(
         &mut self,
         rt: &Rt,
-        shot: &Shot<'_>,
+        desks: &mut Desks<LentWorker<'w, Self::Shared, Self::Loader, Self::Sampler, G>>,
+        shot: &Shot<'w>,
         batch: &Batch,
-        gate: &G,
+        gate: &'w G,
+        meanwhile: &mut A,
     ) -> Result<PassReport, NoMemory>
         requires ready { is_ready self.old batch.now.elements }
         requires root { MapsRoot (state self.old) }
         requires job { IsJobFor (state self.old).setup (job_of shot.now batch.now.elements) }
+        requires meanwhile { A.ready meanwhile.old }
         ensures ends { EndsPassRun drawing (drawn self.new) (is_idle self.new)
             (job_of shot.now batch.now.elements) result (state self.old) (state self.new) }
         ensures refused { OnErr result refuses }
         ensures held { IfOk result (λ report. held self.old self.new (job_of shot.now batch.now.elements)
             report.rows.elements) }
+        ensures meanwhile { A.did meanwhile.old meanwhile.new }
     {
         let (mut loaders, mut samplers, mut streamer) = self.detach_workers(shot, batch);
-        work_together(
+        work_with_crew(
             rt,
-            loaders.slice_mut(),
-            samplers.slice_mut(),
+            desks,
+            &mut loaders,
+            &mut samplers,
             &mut streamer,
+            meanwhile,
             self.shared(),
             shot,
             batch.slice(),
@@ -272,7 +284,7 @@ pub trait PassMachine: Sized {
         ensures { OnOk result (out.new.items ≡ out.old.items ++ concat (state self.now).rows) };
 
     /// Ends the machine, and hands the stores back with the states of their files.
-    fn end<Rt: Threads + Wait + Sync>(self, rt: &Rt) -> Stores<Self::File>
+    fn end<Rt: Threads + Wait>(self, rt: &Rt) -> Stores<Self::File>
         ensures { files_of Self.File.File result.elements ≡ (state self).files };
 
     /// Where the root is mapped and every page that a picture needs, a pixel under the page table is that without one.
@@ -306,3 +318,6 @@ pub trait PassMachine: Sized {
     ghost has_answered: { (job : Job) (n p : Self) (c : List Self.Loader) (f : List Self.Sampler) (d : Self.Streamer)
         (r : Result Report Refusal) → reattached n job c f d p r → OnErr r refuses };
 }
+
+/// A machine whose workers may go to the hands of a crew, with what they share.
+pub trait SentMachine: PassMachine<Shared: Send + Sync, Loader: Send, Sampler: Send> {}

@@ -1,4 +1,4 @@
-//! What one worker of a pass does.
+//! What the streamer of a pass does.
 
 ghost use Rattle.vt_machine.specs.Jobs.{Job, job_of};
 
@@ -8,11 +8,9 @@ use vt_evict::Planned;
 use vt_outside::Gate;
 use vt_pictures::Shot;
 
-/// A part of a pass that one worker does: it changes itself alone, and reads what it shares with the other workers, an `S`.
+/// The part of a pass that its streamer does, in the thread of the pass's caller: it changes itself alone, and reads what it shares with the other
+/// workers, an `S`.
 pub trait Task<S> {
-    /// Whether each of several samplers has a thread of its own, however small the picture is.
-    const ALONE: bool = false;
-
     /// It may begin, on what is shared and for the pass's job.
     ghost ready: { S → Job → Self → Type 0 };
 

@@ -4,6 +4,7 @@ ghost use Rattle.std.specs.Thread.{IsSync, IsSend};
 ghost use Rattle.vt_machine.specs.Jobs.{job_of};
 ghost use Rattle.vt_machine.specs.All.{AllReady, AllDid};
 
+use crate::hand_task::HandTask;
 use crate::task::Task;
 use crate::threads::{loader_threads, sampler_threads};
 use std::sync::Wait;
@@ -17,8 +18,8 @@ use vt_pictures::Shot;
 pub fn work_together<
     Rt: Threads + Wait + Sync,
     S: Sync,
-    L: Task<S> + Send,
-    M: Task<S> + Send,
+    L: HandTask<S> + Send,
+    M: HandTask<S> + Send,
     R: Task<S> + Send,
     G: Gate + Sync,
 >(
@@ -53,8 +54,8 @@ pub fn work_together<
 fn draw_here<
     Rt: Threads + Wait + Sync,
     S: Sync,
-    L: Task<S> + Send,
-    M: Task<S> + Send,
+    L: HandTask<S> + Send,
+    M: HandTask<S> + Send,
     R: Task<S> + Send,
     G: Gate + Sync,
 >(
@@ -97,8 +98,8 @@ fn draw_here<
 fn stream_here<
     Rt: Threads + Wait + Sync,
     S: Sync,
-    L: Task<S> + Send,
-    M: Task<S> + Send,
+    L: HandTask<S> + Send,
+    M: HandTask<S> + Send,
     R: Task<S> + Send,
     G: Gate + Sync,
 >(
@@ -141,7 +142,7 @@ fn stream_here<
 fn load_and_stream<
     Rt: Threads + Wait + Sync,
     S: Sync,
-    L: Task<S> + Send,
+    L: HandTask<S> + Send,
     R: Task<S> + Send,
     G: Gate + Sync,
 >(
@@ -192,7 +193,7 @@ fn load_and_stream<
 }
 
 // In how many threads samplers are at work.
-fn threads_of<S: Sync, M: Task<S>>(samplers: &[M], shot: &Shot<'_>) -> usize {
+fn threads_of<S: Sync, M: HandTask<S>>(samplers: &[M], shot: &Shot<'_>) -> usize {
     if M::ALONE {
         samplers.len()
     } else {
@@ -201,7 +202,7 @@ fn threads_of<S: Sync, M: Task<S>>(samplers: &[M], shot: &Shot<'_>) -> usize {
 }
 
 // All samplers, which share threads where the picture is small, unless each has one of its own.
-fn draw_all<Rt: Threads + Wait + Sync, S: Sync, M: Task<S> + Send, G: Gate + Sync>(
+fn draw_all<Rt: Threads + Wait + Sync, S: Sync, M: HandTask<S> + Send, G: Gate + Sync>(
     rt: &Rt,
     samplers: &mut [M],
     shared: &S,
@@ -217,7 +218,7 @@ fn draw_all<Rt: Threads + Wait + Sync, S: Sync, M: Task<S> + Send, G: Gate + Syn
 }
 
 // All tasks of a list, by halves, in so many threads.
-fn work_all<Rt: Threads + Wait + Sync, S: Sync, L: Task<S> + Send, G: Gate + Sync>(
+fn work_all<Rt: Threads + Wait + Sync, S: Sync, L: HandTask<S> + Send, G: Gate + Sync>(
     rt: &Rt,
     threads: usize,
     tasks: &mut [L],
@@ -254,7 +255,7 @@ fn work_all<Rt: Threads + Wait + Sync, S: Sync, L: Task<S> + Send, G: Gate + Syn
 }
 
 // All tasks of a list, one after the other.
-fn work_in_turn<Rt: Threads + Wait, S: Sync, L: Task<S>, G: Gate>(
+fn work_in_turn<Rt: Threads + Wait, S: Sync, L: HandTask<S>, G: Gate>(
     rt: &Rt,
     tasks: &mut [L],
     shared: &S,
@@ -269,7 +270,7 @@ fn work_in_turn<Rt: Threads + Wait, S: Sync, L: Task<S>, G: Gate>(
         return;
     }
     if tasks.len() == 1 {
-        tasks[0].work(rt, shared, shot, batch, gate);
+        tasks[0].work(rt, shared, shot, gate);
         return;
     }
     let (low, high) = tasks.split_at_mut(tasks.len() / 2);
