@@ -6,10 +6,10 @@ use Rattle.vt_evict.specs.PlanTypes.batches.Planned.{Planned}
 use Rattle.vt_crew.specs.declared.ends.Pending.{Pending}
 use Rattle.vt_machine.specs.Jobs.{Job, job_of}
 use Rattle.vt_machine.specs.All.{AllReady, AllDid}
-use Rattle.vt_machine.specs.Roles.{HasWorked, IsLoader, IsSampler, IsRoleDone, IsLaid, IsLastLaid}
+use Rattle.vt_machine.specs.Roles.{HasWorked, HaveWorked, IsLoader, IsSampler, AreRest, IsRoleDone, IsLaid, IsLastLaid}
 use Rattle.vt_machine.specs.declared.lent_worker.LentWorker.{LentWorker}
 use Rattle.vt_machine.specs.declared.lent_worker.Role.{Role}
-use Rattle.vt_machine.specs.declared.lent_worker.Role.TheVariants.{Loader, Sampler}
+use Rattle.vt_machine.specs.declared.lent_worker.Role.TheVariants.{Loader, Sampler, Rest}
 use Rattle.vt_machine.proofs.Halves.{high_ready, both_did}
 
 module _ {S L M : Type 0} (loads : S → Job → L → Type 0) (loaded : S → Job → L → L → Type 0) (draws : S → Job → M → Type 0)
@@ -18,10 +18,17 @@ module _ {S L M : Type 0} (loads : S → Job → L → Type 0) (loaded : S → J
   pub stays_loader : (l : L) (role : Role L M) → IsRoleDone loads loaded draws drawn s shot (Loader l) role → IsLoader role
   stays_loader l (Loader k) done = tt
   stays_loader l (Sampler m) done = done
+  stays_loader l (Rest xs) done = done
 
   pub stays_sampler : (m : M) (role : Role L M) → IsRoleDone loads loaded draws drawn s shot (Sampler m) role → IsSampler role
   stays_sampler m (Loader k) done = done
   stays_sampler m (Sampler n) done = tt
+  stays_sampler m (Rest xs) done = done
+
+  pub stay_rest : (xs : ListView M) (role : Role L M) → IsRoleDone loads loaded draws drawn s shot (Rest xs) role → AreRest role
+  stay_rest xs (Loader k) done = done
+  stay_rest xs (Sampler n) done = done
+  stay_rest xs (Rest ys) done = tt
 
   pub loader_worked : (l k : L) (role : Role L M) → IsRoleDone loads loaded draws drawn s shot (Loader l) role → Loader k ≡ role
       → HasWorked loads loaded s shot l k
@@ -30,6 +37,10 @@ module _ {S L M : Type 0} (loads : S → Job → L → Type 0) (loaded : S → J
   pub sampler_worked : (m n : M) (role : Role L M) → IsRoleDone loads loaded draws drawn s shot (Sampler m) role → Sampler n ≡ role
       → HasWorked draws drawn s shot m n
   sampler_worked m n role done same = subst (λ r. IsRoleDone loads loaded draws drawn s shot (Sampler m) r) (sym same) done
+
+  pub rest_worked : (xs ys : ListView M) (role : Role L M) → IsRoleDone loads loaded draws drawn s shot (Rest xs) role → Rest ys ≡ role
+      → HaveWorked draws drawn s shot xs ys
+  rest_worked xs ys role done same = subst (λ r. IsRoleDone loads loaded draws drawn s shot (Rest xs) r) (sym same) done
 
 -- the last worker of a list may begin where each may
 last_ready : {W : Type 0} (ready : W → Type 0) (xs a : List W) (x : W) → xs ≡ a ++ x ∷ [] → AllReady ready xs → ready x

@@ -1,35 +1,20 @@
--- Workers that were lent as a slice, and are back in their list.
-use Rattle.std.proofs.Common.{◌≡◌, ℕ, List, ◌++◌, length, take, drop, sym, ap, ◌∙◌, subst}
-use Rattle.std.specs.List.{refill}
-use Rattle.std.proofs.Math.Seq.{take-append_seam}
+-- Workers of a pass, by what is shared and by its job, whichever name these have.
+use Rattle.std.proofs.Common.{◌≡◌, List, sym, subst}
 use Rattle.vt_machine.specs.Jobs.{Job}
 use Rattle.vt_machine.specs.All.{AllReady, AllDid}
 
--- a list whose lent elements are all back
-pub refilled : {W : Type 0} (xs ws : List W) → length ws ≡ length xs → refill (length xs) xs ws ≡ ws
-refilled xs ws e = ap (λ (n : ℕ). take n (ws ++ drop (length ws) xs)) (sym e) ∙ take-append_seam ws (drop (length ws) xs)
-
-pub same_number : {W : Type 0} (xs lent ws : List W) → lent ≡ xs → length ws ≡ length lent → length (refill (length xs) xs ws) ≡ length xs
-same_number xs lent ws same number =
-    let e : length ws ≡ length xs = number ∙ ap length same in
-    ap length (refilled xs ws e) ∙ e
-
--- what may begin before it is lent, said of what is lent
+-- what may begin before what is shared is lent, said of what is lent
 module _ {S W : Type 0} (ready : S → Job → W → Type 0) (s t : S) (i j : Job) (shared : s ≡ t) (job : i ≡ j) where
   pub one_ready : (v : W) → ready t j v → ready s i v
   one_ready v h = subst (λ x. ready x i v) (sym shared) (subst (λ k. ready t k v) (sym job) h)
 
-  pub all_ready : (xs lent : List W) → lent ≡ xs → AllReady (ready t j) xs → AllReady (ready s i) lent
-  all_ready xs lent same h = subst (λ l. AllReady (ready s i) l) (sym same)
-      (subst (λ x. AllReady (ready x i) xs) (sym shared) (subst (λ k. AllReady (ready t k) xs) (sym job) h))
+  pub all_ready : (xs : List W) → AllReady (ready t j) xs → AllReady (ready s i) xs
+  all_ready xs h = subst (λ x. AllReady (ready x i) xs) (sym shared) (subst (λ k. AllReady (ready t k) xs) (sym job) h)
 
+-- what was done, said of what was shared before it was lent
 module _ {S W : Type 0} (did : S → Job → W → W → Type 0) (s t : S) (i j : Job) (shared : s ≡ t) (job : i ≡ j) where
-  -- what one did, said of what was shared before it was lent
   pub one_did : (v w : W) → did s i v w → did t j v w
   one_did v w h = subst (λ x. did x j v w) shared (subst (λ k. did s k v w) job h)
 
-  pub all_did : (xs lent ws : List W) → lent ≡ xs → length ws ≡ length lent → AllDid (did s i) lent ws → AllDid (did t j) xs (refill (length xs) xs ws)
-  all_did xs lent ws same number h =
-      let e : length ws ≡ length xs = number ∙ ap length same in
-      subst (λ l. AllDid (did t j) xs l) (sym (refilled xs ws e))
-      (subst (λ l. AllDid (did t j) l ws) same (subst (λ x. AllDid (did x j) lent ws) shared (subst (λ k. AllDid (did s k) lent ws) job h)))
+  pub all_did : (xs ws : List W) → AllDid (did s i) xs ws → AllDid (did t j) xs ws
+  all_did xs ws h = subst (λ x. AllDid (did x j) xs ws) shared (subst (λ k. AllDid (did s k) xs ws) job h)

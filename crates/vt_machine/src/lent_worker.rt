@@ -4,22 +4,26 @@ ghost use Rattle.std.specs.Prelude.{◌≡◌, MatchResult};
 ghost use Rattle.std.specs.Arc.{arc_value};
 ghost use Rattle.vt_pictures.specs.DrawTypes.shots.Shot.{Shot};
 ghost use Rattle.vt_machine.specs.declared.lent_worker.Role.{Role};
-ghost use Rattle.vt_machine.specs.declared.lent_worker.Role.TheVariants.{Loader, Sampler};
-ghost use Rattle.vt_machine.specs.Roles.{MayBegin, HasWorked, IsLoader, IsSampler, IsRoleReady, IsRoleDone, IsLaid};
+ghost use Rattle.vt_machine.specs.declared.lent_worker.Role.TheVariants.{Loader, Sampler, Rest};
+ghost use Rattle.vt_machine.specs.Roles.{MayBegin, HasWorked, AllBegin, HaveWorked, IsLoader, IsSampler, AreRest, IsRoleReady, IsRoleDone, IsLaid};
+ghost use Rattle.vt_outside.specs.Lists.{ListView};
 
+use crate::crewed::work_one_by_one;
 use crate::hand_task::HandTask;
 use std::sync::{Arc, Wait};
 use std::thread::Threads;
 use vt_crew::{Desks, Pending, Work};
-use vt_outside::Gate;
+use vt_outside::{Gate, Items};
 use vt_pictures::Shot;
 
-/// A worker that may go to a hand.
+/// A worker that may go to a hand, or several that go to one.
 pub enum Role<L, M> {
     /// A loader.
     Loader(L),
     /// A sampler.
     Sampler(M),
+    /// Samplers that draw one after the other.
+    Rest(Items<M>),
 }
 
 /// A worker with all that it uses, as it goes to a hand. It has no `Drop` where workers have none, so that it is taken back.
@@ -42,6 +46,9 @@ impl<'w, S, L: HandTask<S>, M: HandTask<S>, G: Gate> Work for LentWorker<'w, S, 
         match &mut self.role {
             Role::Loader(loader) => loader.work(rt, &*self.shared, &self.shot, self.gate),
             Role::Sampler(sampler) => sampler.work(rt, &*self.shared, &self.shot, self.gate),
+            Role::Rest(samplers) => {
+                work_one_by_one(rt, samplers, &*self.shared, &self.shot, self.gate)
+            }
         }
     }
 }
@@ -87,7 +94,7 @@ fn role_of<'w, S: Drop, L, M, G>(lent: LentWorker<'w, S, L, M, G>) -> Role<L, M>
 }
 
 // Waits for a worker that lies on a desk.
-fn take_role<'w, Rt: Wait, S: Drop, L: HandTask<S>, M: HandTask<S>, G: Gate>(
+fn take_role<'w, Rt: Threads + Wait, S: Drop, L: HandTask<S>, M: HandTask<S>, G: Gate>(
     rt: &Rt,
     desks: &mut Desks<LentWorker<'w, S, L, M, G>>,
     pending: Pending<LentWorker<'w, S, L, M, G>>,
@@ -106,6 +113,7 @@ fn loader_of<L, M>(role: Role<L, M>) -> L
     match role {
         Role::Loader(loader) => loader,
         Role::Sampler(_sampler) => unreachable!(),
+        Role::Rest(_samplers) => unreachable!(),
     }
 }
 
@@ -117,6 +125,19 @@ fn sampler_of<L, M>(role: Role<L, M>) -> M
     match role {
         Role::Loader(_loader) => unreachable!(),
         Role::Sampler(sampler) => sampler,
+        Role::Rest(_samplers) => unreachable!(),
+    }
+}
+
+// The samplers that several workers are.
+fn rest_of<L, M>(role: Role<L, M>) -> Items<M>
+    requires { AreRest role }
+    ensures { Rest result ≡ role }
+{
+    match role {
+        Role::Loader(_loader) => unreachable!(),
+        Role::Sampler(_sampler) => unreachable!(),
+        Role::Rest(samplers) => samplers,
     }
 }
 
@@ -154,8 +175,25 @@ pub(crate) fn lay_sampler<'w, S: Drop, L: HandTask<S>, M: HandTask<S>, G: Gate>(
     }
 }
 
+/// Lays samplers on a desk that draw one after the other. Where no hand serves they are handed back.
+pub(crate) fn lay_rest<'w, S: Drop, L: HandTask<S>, M: HandTask<S>, G: Gate>(
+    desks: &mut Desks<LentWorker<'w, S, L, M, G>>,
+    samplers: Items<M>,
+    shared: &Arc<S>,
+    shot: &Shot<'w>,
+    gate: &'w G,
+) -> Result<Pending<LentWorker<'w, S, L, M, G>>, Items<M>>
+    requires { AllBegin M.ready (arc_value shared.now) shot.now samplers.elements }
+    ensures { MatchResult result (IsLaid (arc_value shared.now) shot.now (Rest samplers)) (λ back. back ≡ samplers) }
+{
+    match hand_over(desks, Role::Rest(samplers), shared, shot, gate) {
+        Ok(pending) => Ok(pending),
+        Err(role) => Err(rest_of(role)),
+    }
+}
+
 /// Waits for a loader that lies on a desk.
-pub(crate) fn take_loader<'w, Rt: Wait, S: Drop, L: HandTask<S>, M: HandTask<S>, G: Gate>(
+pub(crate) fn take_loader<'w, Rt: Threads + Wait, S: Drop, L: HandTask<S>, M: HandTask<S>, G: Gate>(
     rt: &Rt,
     desks: &mut Desks<LentWorker<'w, S, L, M, G>>,
     pending: Pending<LentWorker<'w, S, L, M, G>>,
@@ -168,7 +206,14 @@ pub(crate) fn take_loader<'w, Rt: Wait, S: Drop, L: HandTask<S>, M: HandTask<S>,
 }
 
 /// Waits for a sampler that lies on a desk.
-pub(crate) fn take_sampler<'w, Rt: Wait, S: Drop, L: HandTask<S>, M: HandTask<S>, G: Gate>(
+pub(crate) fn take_sampler<
+    'w,
+    Rt: Threads + Wait,
+    S: Drop,
+    L: HandTask<S>,
+    M: HandTask<S>,
+    G: Gate,
+>(
     rt: &Rt,
     desks: &mut Desks<LentWorker<'w, S, L, M, G>>,
     pending: Pending<LentWorker<'w, S, L, M, G>>,
@@ -178,4 +223,17 @@ pub(crate) fn take_sampler<'w, Rt: Wait, S: Drop, L: HandTask<S>, M: HandTask<S>
         → HasWorked M.ready M.did s shot sampler result }
 {
     sampler_of(take_role(rt, desks, pending))
+}
+
+/// Waits for samplers that lie on a desk.
+pub(crate) fn take_rest<'w, Rt: Threads + Wait, S: Drop, L: HandTask<S>, M: HandTask<S>, G: Gate>(
+    rt: &Rt,
+    desks: &mut Desks<LentWorker<'w, S, L, M, G>>,
+    pending: Pending<LentWorker<'w, S, L, M, G>>,
+) -> Items<M>
+    requires { (s : S) × (shot : Shot) × (samplers : ListView M) × IsLaid s shot (Rest samplers) pending }
+    ensures { (s : S) (shot : Shot) (samplers : ListView M) → IsLaid s shot (Rest samplers) pending.entry
+        → HaveWorked M.ready M.did s shot samplers result }
+{
+    rest_of(take_role(rt, desks, pending))
 }

@@ -27,6 +27,7 @@ pub use lent_worker::{LentWorker, Role};
 pub use machine::{PassMachine, SentMachine};
 pub use meanwhile::{Meanwhile, Nothing};
 pub use task::Task;
+pub use threads::hands_for;
 pub use vt_crew::{Desks, Errand, run_with_crew};
 pub use vt_evict::{Batch, Counts as FeedbackCounts, Losses, Planned};
 pub use vt_pictures::{Events, Journal, Path, RowLines, Shot};

@@ -247,12 +247,12 @@ pub trait PassMachine: Sized {
             report.rows.elements) }
         ensures meanwhile { A.did meanwhile.old meanwhile.new }
     {
-        let (mut loaders, mut samplers, mut streamer) = self.detach_workers(shot, batch);
-        work_with_crew(
+        let (mut loaders, samplers, mut streamer) = self.detach_workers(shot, batch);
+        let samplers = work_with_crew(
             rt,
             desks,
             &mut loaders,
-            &mut samplers,
+            samplers,
             &mut streamer,
             meanwhile,
             self.shared(),

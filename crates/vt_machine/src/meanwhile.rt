@@ -2,6 +2,9 @@
 
 /// What the caller of a pass does while hands are at work, as to write the picture before.
 pub trait Meanwhile {
+    /// Whether it is nothing, so that the caller has its thread for the pass.
+    const IS_NOTHING: bool = false;
+
     /// It may be done.
     ghost ready: { Self → Type 0 };
 
@@ -19,6 +22,8 @@ pub trait Meanwhile {
 pub struct Nothing;
 
 impl Meanwhile for Nothing {
+    const IS_NOTHING: bool = true;
+
     ghost ready = { λ nothing. Unit {0} };
 
     ghost did = { λ before after. Unit {0} };

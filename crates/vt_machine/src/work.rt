@@ -197,7 +197,7 @@ fn threads_of<S: Sync, M: HandTask<S>>(samplers: &[M], shot: &Shot<'_>) -> usize
     if M::ALONE {
         samplers.len()
     } else {
-        sampler_threads(shot)
+        sampler_threads(shot.path)
     }
 }
 

@@ -3,6 +3,7 @@
 use crate::checks::holds;
 use crate::crew::{comes_to, wait_for_hands};
 use std::alloc::Global;
+use std::mem;
 use std::sync::atomic::AtomicU64;
 use std::sync::atomic::Ordering::SeqCst;
 use std::sync::{Arc, Wait};
@@ -119,6 +120,7 @@ impl Meanwhile for Note {
 // A pass of two loaders, two samplers and a streamer.
 #[derive(Drop)]
 struct Pass<'w, G> {
+    alloc: Global,
     loaders: Items<Worker>,
     samplers: Items<Worker>,
     streamer: Streamer,
@@ -139,11 +141,12 @@ impl<'w, G: Gate> Errand<LentWorker<'w, Meeting, Worker, Worker, G>> for Pass<'w
         desks: &mut Desks<LentWorker<'w, Meeting, Worker, Worker, G>>,
     ) {
         wait_for_hands(desks);
-        work_with_crew(
+        let samplers = mem::replace(&mut self.samplers, Items::new(self.alloc));
+        self.samplers = work_with_crew(
             rt,
             desks,
             &mut self.loaders,
-            &mut self.samplers,
+            samplers,
             &mut self.streamer,
             &mut self.note,
             &self.meeting,
@@ -168,9 +171,13 @@ const BATCH: [Planned; 2] = [
     },
 ];
 
-// Three pictures of two pixels.
-const PATH: &[u8] =
+// Three pictures of two pixels, for which one hand is enough.
+const SMALL: &[u8] =
     b"size 2 1\nfocal 1\nat 0 0 256 16384 0\nat 0 0 256 16384 0\nat 0 0 256 16384 0\n";
+
+// Three pictures of so many pixels that two samplers have a hand each.
+const LARGE: &[u8] =
+    b"size 128 128\nfocal 1\nat 0 0 256 16384 0\nat 0 0 256 16384 0\nat 0 0 256 16384 0\n";
 
 // Two workers.
 fn two_workers(alloc: Global) -> Option<Items<Worker>> {
@@ -192,6 +199,7 @@ fn pass_of<'w, G>(alloc: Global, others: u64, shot: Shot<'w>, gate: &'w G) -> Op
     )
     .ok()?;
     Some(Pass {
+        alloc,
         loaders: two_workers(alloc)?,
         samplers: two_workers(alloc)?,
         streamer: Streamer {
@@ -249,15 +257,16 @@ fn places_of<'w, G>(pass: &Pass<'w, G>, picture: u32) -> Option<[u64; 6]> {
     }
 }
 
-// The places of a pass of the last picture, which is run by so many hands.
+// The places of a pass of a path's last picture, which is run by so many hands.
 fn places_by<Rt: Threads + Wait + Sync>(
     rt: &Rt,
     alloc: Global,
+    path: &[u8],
     hands: usize,
     others: u64,
 ) -> Option<[u64; 6]> {
     let geometry = Geometry::new(4, 4, 2).ok()?;
-    let path = parse_path(alloc, PATH).ok()?;
+    let path = parse_path(alloc, path).ok()?;
     let shot = Shot {
         geometry: &geometry,
         path: &path,
@@ -272,16 +281,27 @@ fn places_by<Rt: Threads + Wait + Sync>(
 
 #[test]
 fn four_hands_and_their_caller_are_at_work_at_once(rt: HostRuntime) {
-    match places_by(&rt, rt.alloc(), 4, 6) {
+    match places_by(&rt, rt.alloc(), LARGE, 4, 6) {
         Some(places) => holds(&rt, places[2] < places[3]),
         None => holds(&rt, false),
     }
 }
 
 #[test]
-fn a_caller_with_no_hand_loads_notes_streams_and_draws(rt: HostRuntime) {
+fn the_samplers_of_a_small_picture_draw_in_turn_by_one_hand(rt: HostRuntime) {
+    match places_by(&rt, rt.alloc(), SMALL, 3, 5) {
+        Some(places) => holds(
+            &rt,
+            places[2] < places[3] && places[4] < places[5] && places[5] == 5,
+        ),
+        None => holds(&rt, false),
+    }
+}
+
+#[test]
+fn a_caller_with_no_hand_notes_loads_streams_and_draws(rt: HostRuntime) {
     holds(
         &rt,
-        places_by(&rt, rt.alloc(), 0, 1) == Some([0, 1, 2, 3, 4, 5]),
+        places_by(&rt, rt.alloc(), LARGE, 0, 1) == Some([1, 2, 0, 3, 4, 5]),
     );
 }

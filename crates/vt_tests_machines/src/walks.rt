@@ -14,7 +14,7 @@ use std::process::Abort;
 use std::sync::Wait;
 use std::thread::Threads;
 use vt_camera::{Path, parse_path};
-use vt_machine::{Crew, PassMachine};
+use vt_machine::{Crew, SentMachine};
 use vt_outside::{Fails, Folder, Gate, MemoryFile, MemoryFolder, MemorySink, OpenGate};
 use vt_pass_machines::{Bilinear, Dealt, Machine, Nearest, Shared, SwapTable, WordTable};
 use vt_tiles::{Geometry, Store};
@@ -84,7 +84,7 @@ fn are_lawful(geometry: &Geometry, settings: &Settings) -> bool
 // Whether the walk of a case by a machine over the store of a folder succeeds.
 fn is_walked<
     Rt: Abort + Threads + Wait + Sync,
-    M: PassMachine<File = MemoryFile> + Send,
+    M: SentMachine<File = MemoryFile>,
     G: Gate + Sync,
 >(
     rt: &Rt,
@@ -130,7 +130,7 @@ fn has_journal(folder: &MemoryFolder, case: &Case<'_>) -> bool {
 // Whether all comes of the walk of a case by a machine that is to come of it, in a folder of no names.
 fn comes<
     Rt: Abort + Threads + Wait + Sync,
-    M: PassMachine<File = MemoryFile> + Send,
+    M: SentMachine<File = MemoryFile>,
     G: Gate + Sync,
 >(rt: &Rt, alloc: Global, folder: &mut MemoryFolder, case: &Case<'_>, gate: &G) -> bool {
     let laid = folder.add("s", &FOUR).is_ok() && folder.add("p", case.path).is_ok();
@@ -195,7 +195,7 @@ const BY_SEVEN: Case<'_> = Case {
 static CREWS: [Case<'_>; 3] = [BY_ONE, BY_TWO, BY_SEVEN];
 
 // Whether all comes of each crew's walk by a machine.
-fn comes_by_any_crew<Rt: Abort + Threads + Wait + Sync, M: PassMachine<File = MemoryFile> + Send>(
+fn comes_by_any_crew<Rt: Abort + Threads + Wait + Sync, M: SentMachine<File = MemoryFile>>(
     rt: &Rt,
     alloc: Global,
 ) -> bool {
@@ -254,7 +254,7 @@ fn has_one_and_three(folder: &MemoryFolder) -> bool {
 }
 
 // Whether a sampler of a machine draws three rows of a picture while another waits in its first.
-fn outruns<Rt: Abort + Threads + Wait + Sync, M: PassMachine<File = MemoryFile> + Send>(
+fn outruns<Rt: Abort + Threads + Wait + Sync, M: SentMachine<File = MemoryFile>>(
     rt: &Rt,
     alloc: Global,
 ) -> bool {
@@ -297,7 +297,7 @@ const ONE_BLEND: Case<'_> = Case {
 };
 
 // Whether the walk of a case by a machine shows so many pixels of these samples, and its second sampler begins a row while the first is at one.
-fn meets<Rt: Abort + Threads + Wait + Sync, M: PassMachine<File = MemoryFile> + Send>(
+fn meets<Rt: Abort + Threads + Wait + Sync, M: SentMachine<File = MemoryFile>>(
     rt: &Rt,
     alloc: Global,
     case: &Case<'_>,

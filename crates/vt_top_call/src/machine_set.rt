@@ -9,7 +9,7 @@ use std::alloc::Global;
 use std::marker::PhantomData;
 use std::sync::Wait;
 use std::thread::Threads;
-use vt_commands::{Machines, PassMachine};
+use vt_commands::{Machines, SentMachine};
 use vt_outside::{File, Folder, Gate, Sink};
 
 /// The machines of a run, a type for each choice that the words of a walk have.
@@ -22,10 +22,10 @@ struct MachineSet<Standard, SwappedTable, SharedRows, Bilinear> {
 
 impl<
     F: File + Send,
-    Standard: PassMachine<File = F> + Send,
-    SwappedTable: PassMachine<File = F> + Send,
-    SharedRows: PassMachine<File = F> + Send,
-    Bilinear: PassMachine<File = F> + Send,
+    Standard: SentMachine<File = F>,
+    SwappedTable: SentMachine<File = F>,
+    SharedRows: SentMachine<File = F>,
+    Bilinear: SentMachine<File = F>,
 > Machines<F> for MachineSet<Standard, SwappedTable, SharedRows, Bilinear> {
     type Standard = Standard;
 
@@ -49,10 +49,10 @@ impl<
 
 /// Does what `run` does by machines of these types, one for each choice that the words of a walk have.
 pub fn run_by<
-    Standard: PassMachine<File = D::File> + Send,
-    SwappedTable: PassMachine<File = D::File> + Send,
-    SharedRows: PassMachine<File = D::File> + Send,
-    Bilinear: PassMachine<File = D::File> + Send,
+    Standard: SentMachine<File = D::File>,
+    SwappedTable: SentMachine<File = D::File>,
+    SharedRows: SentMachine<File = D::File>,
+    Bilinear: SentMachine<File = D::File>,
     Rt: Threads + Wait + Sync,
     D: Folder,
     O: Sink,
@@ -77,7 +77,7 @@ pub fn run_by<
 
 /// Does what `run` does by machines of one type, whatever the words of a walk choose.
 pub fn run_one<
-    M: PassMachine<File = D::File> + Send,
+    M: SentMachine<File = D::File>,
     Rt: Threads + Wait + Sync,
     D: Folder,
     O: Sink,

@@ -14,4 +14,4 @@ pub use vt_bilinear::{Bilinear, BlendMachine, StealMachine, SwapMachine, WordMac
 pub use vt_store_commands::commands::{
     StoreCommand, perform_store_command, read_store_command, usage_line,
 };
-pub use vt_walk::PassMachine;
+pub use vt_walk::{PassMachine, SentMachine};

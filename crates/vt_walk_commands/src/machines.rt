@@ -4,21 +4,21 @@ ghost use Rattle.vt_walk_commands.specs.Machines.{Machines, kind_of};
 ghost use Rattle.vt_walk_commands.specs.commands.Walk.{WalksAs};
 
 use vt_outside::File;
-use vt_walk::PassMachine;
+use vt_walk::SentMachine;
 
 /// The machines by one of which a walk over files of type `F` draws: a type for each choice that its words have.
 pub trait Machines<F: File + Send> {
     /// Those where the words ask for no others.
-    type Standard: PassMachine<File = F> + Send;
+    type Standard: SentMachine<File = F>;
 
     /// Those over the swapped table.
-    type SwappedTable: PassMachine<File = F> + Send;
+    type SwappedTable: SentMachine<File = F>;
 
     /// Those whose samplers share rows.
-    type SharedRows: PassMachine<File = F> + Send;
+    type SharedRows: SentMachine<File = F>;
 
     /// Those with bilinear filtering.
-    type Bilinear: PassMachine<File = F> + Send;
+    type Bilinear: SentMachine<File = F>;
 
     /// Their kinds: how they draw, and the pictures that they have drawn.
     ghost kinds: { Machines };

@@ -15,7 +15,7 @@ use vt_command_inputs::{Refusal, open_store, read_path};
 use vt_command_words::WalkWords;
 use vt_outside::{Folder, Gate, Sink};
 use vt_pages::Geometry;
-use vt_walk::{Crew, Names, PassMachine, Settings, WalkError, walk_with};
+use vt_walk::{Crew, Names, SentMachine, Settings, WalkError, walk_with};
 
 // How many texels the frames of a walk have together at most.
 const MOST_FRAME_TEXELS: u64 = 8_388_608;
@@ -25,7 +25,7 @@ const _LIMIT: () = prove!(MOST_FRAME_TEXELS == 8_388_608);
 /// Reads the path and opens the store, and walks by a machine over all pictures of the path. It may wait.
 pub fn walk<
     'a,
-    M: PassMachine<File = D::File> + Send,
+    M: SentMachine<File = D::File>,
     Rt: Threads + Wait + Sync,
     D: Folder,
     O: Sink,

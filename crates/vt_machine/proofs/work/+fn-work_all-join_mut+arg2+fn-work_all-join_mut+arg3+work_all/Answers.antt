@@ -6,7 +6,7 @@ use Rattle.vt_machine.proofs.work.+fn-work_all-join_mut+arg2+fn-work_all-join_mu
 
 pub returns : goal.returns
 returns g t c =
-    let did = g.L.Task.did c.args.shared.now (job_of c.args.shot.now c.args.batch.now) in
+    let did = g.L.HandTask.did c.args.shared.now (job_of c.args.shot.now c.args.batch.now) in
     let a = c.split_at_mut-low.result.0.now in
     let b = c.split_at_mut-low.result.1.now in
     let low : AllDid did a c.low-1.given.0 = search rules in

@@ -1,21 +1,21 @@
-use Rattle.std.proofs.Common.{List, ap, rules}
+use Rattle.std.proofs.Common.{List, ap}
 use Rattle.vt_evict.specs.PlanTypes.batches.Planned.{Planned}
 use Rattle.vt_machine.specs.Jobs.{job_of}
-use Rattle.vt_machine.proofs.Lent.{same_number, one_ready, all_ready, one_did, all_did}
+use Rattle.vt_machine.proofs.Lent.{one_ready, all_ready, one_did, all_did}
 use Rattle.vt_machine.proofs.machine.PassMachine.run.Goals as goal
 
-pub work_together-requires-clause-loaders : goal.work_together-requires-clause-loaders
-work_together-requires-clause-loaders g c κs within =
-    all_ready g.Self.Loader.Task.ready _ _ _ _ c.shared.ensures (ap (λ (batch : List Planned). job_of c.args.shot.now batch) c.slice.ensures)
-    c.detach_workers-loaders.result.0.elements _ c.slice_mut.ensures.value c.detach_workers-loaders.ensures.loaders
+pub work_with_crew-samplers-requires-clause-loaders : goal.work_with_crew-samplers-requires-clause-loaders
+work_with_crew-samplers-requires-clause-loaders g c =
+    all_ready g.Self.Loader.HandTask.ready _ _ _ _ c.shared.ensures (ap (λ (batch : List Planned). job_of c.args.shot.now batch) c.slice.ensures)
+    c.detach_workers-loaders.result.0.elements c.detach_workers-loaders.ensures.loaders
 
-pub work_together-requires-clause-samplers : goal.work_together-requires-clause-samplers
-work_together-requires-clause-samplers g c κs within =
-    all_ready g.Self.Sampler.Task.ready _ _ _ _ c.shared.ensures (ap (λ (batch : List Planned). job_of c.args.shot.now batch) c.slice.ensures)
-    c.detach_workers-loaders.result.1.elements _ c.slice_mut-2.ensures.value c.detach_workers-loaders.ensures.samplers
+pub work_with_crew-samplers-requires-clause-samplers : goal.work_with_crew-samplers-requires-clause-samplers
+work_with_crew-samplers-requires-clause-samplers g c =
+    all_ready g.Self.Sampler.HandTask.ready _ _ _ _ c.shared.ensures (ap (λ (batch : List Planned). job_of c.args.shot.now batch) c.slice.ensures)
+    c.detach_workers-loaders.result.1.elements c.detach_workers-loaders.ensures.samplers
 
-pub work_together-requires-clause-streamer : goal.work_together-requires-clause-streamer
-work_together-requires-clause-streamer g c κs within =
+pub work_with_crew-samplers-requires-clause-streamer : goal.work_with_crew-samplers-requires-clause-streamer
+work_with_crew-samplers-requires-clause-streamer g c =
     one_ready g.Self.Streamer.Task.ready _ _ _ _ c.shared.ensures (ap (λ (batch : List Planned). job_of c.args.shot.now batch) c.slice.ensures)
     c.detach_workers-loaders.result.2 c.detach_workers-loaders.ensures.streamer
 
@@ -24,17 +24,14 @@ reattach_workers-requires g c =
     let shot = c.args.shot.now in
     let with = λ (batch : List Planned). job_of shot batch in
     let out = c.detach_workers-loaders.result in
-    let done = c.work_together in
+    let done = c.work_with_crew-samplers in
     let same = ap with c.slice.ensures in
     g.met.Self.PassMachine.may_come_back (with c.args.batch.now.elements) c.args.self.now c.detach_workers-loaders.new.self
-    out.0.elements _ out.1.elements _ out.2 done.new.streamer
+    out.0.elements done.new.loaders.elements out.1.elements done.result.elements out.2 done.new.streamer
     c.requires.ready c.requires.root c.requires.job c.detach_workers-loaders.ensures.detached
-    (same_number out.0.elements _ done.new.loaders c.slice_mut.ensures.value (search rules))
-    (same_number out.1.elements _ done.new.samplers c.slice_mut-2.ensures.value (search rules))
-    (all_did g.Self.Loader.Task.did _ _ _ _ c.shared.ensures same out.0.elements _ done.new.loaders c.slice_mut.ensures.value (search rules)
-    done.ensures.loaders)
-    (all_did g.Self.Sampler.Task.did _ _ _ _ c.shared.ensures same out.1.elements _ done.new.samplers c.slice_mut-2.ensures.value (search rules)
-    done.ensures.samplers)
+    done.ensures.loader_number done.ensures.sampler_number
+    (all_did g.Self.Loader.HandTask.did _ _ _ _ c.shared.ensures same out.0.elements done.new.loaders.elements done.ensures.loaders)
+    (all_did g.Self.Sampler.HandTask.did _ _ _ _ c.shared.ensures same out.1.elements done.result.elements done.ensures.samplers)
     (one_did g.Self.Streamer.Task.did _ _ _ _ c.shared.ensures same out.2 done.new.streamer done.ensures.streamer)
 
 pub returns-clause-ends : goal.returns-clause-ends
@@ -42,17 +39,14 @@ returns-clause-ends g c =
     let shot = c.args.shot.now in
     let with = λ (batch : List Planned). job_of shot batch in
     let out = c.detach_workers-loaders.result in
-    let done = c.work_together in
+    let done = c.work_with_crew-samplers in
     let same = ap with c.slice.ensures in
     (g.met.Self.PassMachine.has_run (with c.args.batch.now.elements) c.args.self.now c.detach_workers-loaders.new.self c.reattach_workers.new.self
-    out.0.elements _ out.1.elements _ out.2 done.new.streamer c.reattach_workers.result
+    out.0.elements done.new.loaders.elements out.1.elements done.result.elements out.2 done.new.streamer c.reattach_workers.result
     c.requires.ready c.requires.root c.requires.job c.detach_workers-loaders.ensures.detached
-    (same_number out.0.elements _ done.new.loaders c.slice_mut.ensures.value (search rules))
-    (same_number out.1.elements _ done.new.samplers c.slice_mut-2.ensures.value (search rules))
-    (all_did g.Self.Loader.Task.did _ _ _ _ c.shared.ensures same out.0.elements _ done.new.loaders c.slice_mut.ensures.value (search rules)
-    done.ensures.loaders)
-    (all_did g.Self.Sampler.Task.did _ _ _ _ c.shared.ensures same out.1.elements _ done.new.samplers c.slice_mut-2.ensures.value (search rules)
-    done.ensures.samplers)
+    done.ensures.loader_number done.ensures.sampler_number
+    (all_did g.Self.Loader.HandTask.did _ _ _ _ c.shared.ensures same out.0.elements done.new.loaders.elements done.ensures.loaders)
+    (all_did g.Self.Sampler.HandTask.did _ _ _ _ c.shared.ensures same out.1.elements done.result.elements done.ensures.samplers)
     (one_did g.Self.Streamer.Task.did _ _ _ _ c.shared.ensures same out.2 done.new.streamer done.ensures.streamer) c.reattach_workers.ensures).0
 
 pub returns-clause-held : goal.returns-clause-held
@@ -60,17 +54,14 @@ returns-clause-held g c =
     let shot = c.args.shot.now in
     let with = λ (batch : List Planned). job_of shot batch in
     let out = c.detach_workers-loaders.result in
-    let done = c.work_together in
+    let done = c.work_with_crew-samplers in
     let same = ap with c.slice.ensures in
     (g.met.Self.PassMachine.has_run (with c.args.batch.now.elements) c.args.self.now c.detach_workers-loaders.new.self c.reattach_workers.new.self
-    out.0.elements _ out.1.elements _ out.2 done.new.streamer c.reattach_workers.result
+    out.0.elements done.new.loaders.elements out.1.elements done.result.elements out.2 done.new.streamer c.reattach_workers.result
     c.requires.ready c.requires.root c.requires.job c.detach_workers-loaders.ensures.detached
-    (same_number out.0.elements _ done.new.loaders c.slice_mut.ensures.value (search rules))
-    (same_number out.1.elements _ done.new.samplers c.slice_mut-2.ensures.value (search rules))
-    (all_did g.Self.Loader.Task.did _ _ _ _ c.shared.ensures same out.0.elements _ done.new.loaders c.slice_mut.ensures.value (search rules)
-    done.ensures.loaders)
-    (all_did g.Self.Sampler.Task.did _ _ _ _ c.shared.ensures same out.1.elements _ done.new.samplers c.slice_mut-2.ensures.value (search rules)
-    done.ensures.samplers)
+    done.ensures.loader_number done.ensures.sampler_number
+    (all_did g.Self.Loader.HandTask.did _ _ _ _ c.shared.ensures same out.0.elements done.new.loaders.elements done.ensures.loaders)
+    (all_did g.Self.Sampler.HandTask.did _ _ _ _ c.shared.ensures same out.1.elements done.result.elements done.ensures.samplers)
     (one_did g.Self.Streamer.Task.did _ _ _ _ c.shared.ensures same out.2 done.new.streamer done.ensures.streamer) c.reattach_workers.ensures).1
 
 pub returns-clause-refused : goal.returns-clause-refused
