@@ -46,7 +46,7 @@ class Failing:
         self.program, self.limit = program, limit
         self.seen, self.reads = (os.path.join(scratch, "%s.%d" % (name, os.getpid())) for name in ("seen", "reads"))
         self.environment = dict(os.environ, LD_PRELOAD=library, FAULT_SEEN=self.seen, FAULT_READS=self.reads)
-        # How many allocations the program asked for in the last run while a thread of its own ran.
+        # How many allocations the program asked for in the last run in threads that it made.
         self.grown = 0
         # The processors that runs may use (all where there are none), and the most microseconds that files make a call wait.
         self.processors, self.slow = None, 0

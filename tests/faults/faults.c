@@ -2,8 +2,8 @@
 // FAULT_KIND is alloc, open, seek, stat, read, late_read, write, thread, short_read, short_write, broken_read, broken_write (by a signal) or stop;
 // FAULT_AT counts from 1. With FAULT_ON each later call of the kind fails too. FAULT_SLOW is the most microseconds that a read, a write or an
 // open waits before it begins.
-// FAULT_SEEN names a file for two numbers: of the calls of the kind, and of the allocations that the program itself asked for while a thread of
-// its own ran, but for one for each thread that it made. FAULT_READS names one for a line of each read: its place, its length, whether it failed, and the name of its file.
+// FAULT_SEEN names a file for two numbers: of the calls of the kind, and of the allocations that the program itself asked for in threads that it
+// made, but for one for each thread that these made. FAULT_READS names one for a line of each read: its place, its length, whether it failed, and the name of its file.
 #define _GNU_SOURCE
 #include <dlfcn.h>
 #include <errno.h>
@@ -21,9 +21,9 @@
 #include <time.h>
 #include <unistd.h>
 
-static int ready, seen, at, on, slow, running, grown;
-// Whether the last allocation of this thread was counted among the grown.
-static __thread int is_counted;
+static int ready, seen, at, on, slow, grown;
+// Whether the program made this thread, and whether its last allocation was counted among the grown.
+static __thread int is_made, is_counted;
 static uintptr_t text_begin, text_end;
 static const char *kind;
 
@@ -88,7 +88,7 @@ static int refused(const void *caller) {
     int is_refused = hit("alloc");
     // A thread whose own memory is refused is never made, so what was refused is left out: it would stand for no thread.
     if ((uintptr_t)caller >= text_begin && (uintptr_t)caller < text_end) {
-        is_counted = !is_refused && __atomic_load_n(&running, __ATOMIC_SEQ_CST) > 0;
+        is_counted = !is_refused && is_made;
         __atomic_add_fetch(&grown, is_counted, __ATOMIC_SEQ_CST);
     }
     if (is_refused) errno = ENOMEM;
@@ -115,9 +115,8 @@ struct work {
 static void *run_counted(void *given) {
     struct work work = *(struct work *)given;
     __libc_free(given);
-    void *result = work.run(work.with);
-    __atomic_sub_fetch(&running, 1, __ATOMIC_SEQ_CST);
-    return result;
+    is_made = 1;
+    return work.run(work.with);
 }
 
 int pthread_create(pthread_t *thread, const pthread_attr_t *how, void *(*run)(void *), void *with) {
@@ -129,12 +128,8 @@ int pthread_create(pthread_t *thread, const pthread_attr_t *how, void *(*run)(vo
     struct work *work = __libc_malloc(sizeof *work);
     if (!work) return EAGAIN;
     *work = (struct work){run, with};
-    __atomic_add_fetch(&running, 1, __ATOMIC_SEQ_CST);
     int refusal = real(thread, how, run_counted, work);
-    if (refusal) {
-        __atomic_sub_fetch(&running, 1, __ATOMIC_SEQ_CST);
-        __libc_free(work);
-    }
+    if (refusal) __libc_free(work);
     return refusal;
 }
 

@@ -12,7 +12,7 @@ closed, and over a file system that is full after so many bytes of a file.
 
 Each run is judged by ../judge.py: its status and error line have their cause, and what stands is what docs/FORMATS.md says of that status. A read that fails
 is told by its file and place, so that a page that a live walk loses gives status 0, and any other read that fails does not. A walk asks its store for nothing
-but what it is due to read, and for nothing twice, and while its workers run it asks for no memory but what a new thread takes.
+but what it is due to read, and for nothing twice, and in the threads of its crew it asks for no memory but what a new thread takes.
 """
 import argparse
 import os
@@ -101,7 +101,7 @@ class WalkJob:
 
     def flaws_of_calls(self, kind, left, reads, grown):
         found = [] if kind in UNTOLD else flaws_of_reads(reads, self.store, self.path, self.settings, left)
-        return found + (["%d allocations while workers run" % grown] if grown and not self.grows else [])
+        return found + (["%d allocations in threads of the crew" % grown] if grown and not self.grows else [])
 
 
 # The machines of `walk`: the options that ask for one, what of its settings is another than the default, and whether a pass of it may ask for memory.
