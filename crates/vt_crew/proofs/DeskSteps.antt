@@ -3,6 +3,7 @@ use Rattle.std.proofs.Common.{◌≡◌, ◌≢◌, ℕ, zero, suc, ◌<◌, Lis
 use Rattle.std.specs.Prelude.{Option, slice_index, slice_set, MatchBool, is_some, nat_eq}
 use mathlib.Core.Option.{some, none, some-injective, some-ne-none}
 use lib.ListN.{get_elem?}
+use prog.Atomic.{either}
 use Rattle.atomic_table.specs.Table.{State, Act, keeps, takes, gives, Valid, stepped, carried_after, rest, Allows, Splits, Final, Seen, opening}
 use Rattle.vt_crew.specs.declared.views.DeskView.{DeskView}
 use Rattle.vt_crew.specs.declared.views.DeskView.TheVariants.{Alone, Fresh, Free, Waiting, Idle, Working, Left}
@@ -156,8 +157,20 @@ module _ {J : Type 0} where
     pub found : (m n : Seated J) (r : ℕ) → r ≡ 1 → FindsJob ready m r n → (j : J) × (n ≡ (Working j, (0, Some j) ∷ [])) × ready j
     found m n r is = subst (λ (k : ℕ). FindsJob ready m k n) is
 
-    pub got : (m n : Seated J) (r : ℕ) → r ≡ 2 → TakesBack did m r n → (k : J) × (n ≡ (Free, (0, Some k) ∷ [])) × ((j : J) → WaitsFor j m → did j k)
-    got m n r is = subst (λ (k : ℕ). TakesBack did m k n) is
+    pub got : (m n : Seated J) (r : ℕ) → r ≡ 2 → TakesBack ready did m r n
+        → (k : J) × (n ≡ (Free, (0, Some k) ∷ [])) × ((j : J) → WaitsFor j m → did j k)
+    got m n r is = subst (λ (k : ℕ). TakesBack ready did m k n) is
+
+    -- what the caller has whose job no hand has begun
+    pub regained : (m n : Seated J) (r : ℕ) → r ≡ 1 → TakesBack ready did m r n → (j : J) × (n ≡ (Free, (0, Some j) ∷ [])) × WaitsFor j m × ready j
+    regained m n r is = subst (λ (k : ℕ). TakesBack ready did m k n) is
+
+    -- what the word becomes where the hand begins a job that lies there, and where the caller takes it back
+    abbrev begins_job : ℕ → ℕ
+    begins_job n = either (nat_eq n 1) 4 n
+
+    abbrev ends_job : ℕ → ℕ
+    ends_job n = either (nat_eq n 1) 0 n
 
     -- the hand looks for a job
     nothing_came : (m : Seated J) (n : ℕ) → n ≢ 1 → n ≢ 3 → FindsJob ready m n m
@@ -166,20 +179,30 @@ module _ {J : Type 0} where
         (sym (ne_eqb n 1 a))
         (subst (λ t. MatchBool t (HasLeftDesk m) (m ≡ m)) (sym (ne_eqb n 3 b)) refl)
 
+    -- another word than 1 stays
+    unchanged : (n k : ℕ) → n ≢ 1 → either (nat_eq n 1) k n ≡ n
+    unchanged n k apart = ap (λ b. either b k n) (ne_eqb n 1 apart)
+
     look_in : (p : Phase J) → IsSoundPhase ready did p → get_elem? (hands_in p) 0 ≡ some Idle
-        → Goes (phase_state p) 1 (Idle, []) (λ n. n) (FindsJob ready (Idle, []))
+        → Goes (phase_state p) 1 (Idle, []) begins_job (FindsJob ready (Idle, []))
     look_in single fit at = nobody Idle at
     look_in paired fit at = (Idle, keeps, tt, (paired, refl, tt), refl)
-    look_in (free n) fit at = (Idle, keeps, tt, (free n, refl, fit), nothing_came (Idle, []) n fit.0 fit.1)
+    look_in (free n) fit at = (
+      Idle,
+      keeps,
+      tt,
+      (free n, ap (λ k. record { words = k ∷ []; homes = none ∷ []; views = Free ∷ Idle ∷ [] }) (unchanged n 4 fit.0), fit),
+      nothing_came (Idle, []) n fit.0 fit.1,
+    )
     look_in (asked i) fit at = (Working i, takes 0 (Some i), refl, (working i, refl, tt), (i, refl, fit))
     look_in (working i) fit at = differ (Working i) Idle (omega arith) at
     look_in (done i l) fit at = (Idle, keeps, tt, (done i l, refl, fit), refl)
     look_in over fit at = (Left, keeps, tt, (ended, refl, tt), refl)
     look_in ended fit at = differ Left Idle (omega arith) at
 
-    pub looks : (slots id : ℕ) (me : Seated J) → IsIdleEnd me → Allows (IsDeskKept ready did) slots id me 0 (λ n. n) (FindsJob ready me)
-    looks slots id me is = subst (λ (m : Seated J). Allows (IsDeskKept ready did) slots id m 0 (λ n. n) (FindsJob ready m)) (sym is)
-        (by_hand slots id (Idle, []) (λ n. n) (FindsJob ready (Idle, [])) (omega arith) look_in)
+    pub looks : (slots id : ℕ) (me : Seated J) → IsIdleEnd me → Allows (IsDeskKept ready did) slots id me 0 begins_job (FindsJob ready me)
+    looks slots id me is = subst (λ (m : Seated J). Allows (IsDeskKept ready did) slots id m 0 begins_job (FindsJob ready m)) (sym is)
+        (by_hand slots id (Idle, []) begins_job (FindsJob ready (Idle, [])) (omega arith) look_in)
 
     -- the hand lays the job back that it has done
     tell_in : (j k : J) → did j k → (p : Phase J) → IsSoundPhase ready did p → get_elem? (hands_in p) 0 ≡ some (Working j)
@@ -216,17 +239,22 @@ module _ {J : Type 0} where
     lays slots id me j is may = subst (λ (m : Seated J). Allows (IsDeskKept ready did) slots id m 0 (λ _. 1) (λ _ n. LaysJob m n)) (sym is)
         (by_caller slots id (Free, (0, Some j) ∷ []) (λ _. 1) (λ _ n. LaysJob (Free, (0, Some j) ∷ []) n) (omega arith) (lay_in j may))
 
-    -- the caller looks whether the job was done
+    -- the caller takes its job back
     came : (i j k : J) → i ≡ j → did i k → (l : J) → WaitsFor l (Waiting j, []) → did l k
     came i j k same so l is = subst (λ x. did x k) (same ∙ ap (λ (m : Seated J). job_of j m.0) is) so
 
     take_in : (j : J) (p : Phase J) → IsSoundPhase ready did p → some (caller_in p) ≡ some (Waiting j)
-        → Goes (phase_state p) 0 (Waiting j, []) (λ n. n) (TakesBack did (Waiting j, []))
+        → Goes (phase_state p) 0 (Waiting j, []) ends_job (TakesBack ready did (Waiting j, []))
     take_in j single fit at = differ Alone (Waiting j) (omega arith) at
     take_in j paired fit at = differ Fresh (Waiting j) (omega arith) at
     take_in j (free n) fit at = differ Free (Waiting j) (omega arith) at
-    take_in j (asked i) fit at =
-        (Waiting i, keeps, tt, (asked i, refl, fit), ap (λ (x : J). (Waiting x, [])) (same_job (Waiting i) (Waiting j) j at))
+    take_in j (asked i) fit at = (
+      Free,
+      takes 0 (Some i),
+      refl,
+      (free 0, refl, (omega arith, omega arith)),
+      (i, refl, ap (λ (x : J). (Waiting x, [])) (sym (same_job (Waiting i) (Waiting j) j at)), fit),
+    )
     take_in j (working i) fit at =
         (Waiting i, keeps, tt, (working i, refl, tt), ap (λ (x : J). (Waiting x, [])) (same_job (Waiting i) (Waiting j) j at))
     take_in j (done i l) fit at = (
@@ -239,11 +267,11 @@ module _ {J : Type 0} where
     take_in j over fit at = differ Left (Waiting j) (omega arith) at
     take_in j ended fit at = differ Left (Waiting j) (omega arith) at
 
-    comes_to : (slots id : ℕ) (me : Seated J) (j : J) → WaitsFor j me → Allows (IsDeskKept ready did) slots id me 0 (λ n. n) (TakesBack did me)
-    comes_to slots id me j is = subst (λ (m : Seated J). Allows (IsDeskKept ready did) slots id m 0 (λ n. n) (TakesBack did m)) (sym is)
-        (by_caller slots id (Waiting j, []) (λ n. n) (TakesBack did (Waiting j, [])) (omega arith) (take_in j))
+    comes_to : (slots id : ℕ) (me : Seated J) (j : J) → WaitsFor j me → Allows (IsDeskKept ready did) slots id me 0 ends_job (TakesBack ready did me)
+    comes_to slots id me j is = subst (λ (m : Seated J). Allows (IsDeskKept ready did) slots id m 0 ends_job (TakesBack ready did m)) (sym is)
+        (by_caller slots id (Waiting j, []) ends_job (TakesBack ready did (Waiting j, [])) (omega arith) (take_in j))
 
-    pub comes : (slots id : ℕ) (me : Seated J) → WaitsForSome me → Allows (IsDeskKept ready did) slots id me 0 (λ n. n) (TakesBack did me)
+    pub comes : (slots id : ℕ) (me : Seated J) → WaitsForSome me → Allows (IsDeskKept ready did) slots id me 0 ends_job (TakesBack ready did me)
     comes slots id me waits = let job = awaited me.0 waits.0 in comes_to slots id me job.0 (λ i. (job.1 i, waits.1 i))
 
     -- the caller takes the slot for the first time

@@ -7,7 +7,7 @@ use Rattle.atomic_table.specs.Table.{State}
 use Rattle.vt_crew.specs.declared.views.DeskView.{DeskView}
 use Rattle.vt_crew.specs.declared.views.DeskView.TheVariants.{Alone, Fresh, Free, Waiting, Idle, Working, Left}
 
--- the word while the hand has a job
+-- the word while a job lies there for the hand
 abbrev pub with_hand : ℕ
 with_hand = 1
 
@@ -19,8 +19,12 @@ with_caller = 2
 abbrev pub when_over : ℕ
 when_over = 3
 
+-- the word once the hand has begun a job
+abbrev pub when_begun : ℕ
+when_begun = 4
+
 -- how far a desk has come: it has one seat; it has two; the caller has the slot, and the word is this; a job lies there for the hand; the hand
--- has it; it was done, and lies there as this for the caller; the caller has left; the hand has left too
+-- has begun it; it was done, and lies there as this for the caller; the caller has left; the hand has left too
 pub data Phase (J : Type 0) : Type 0 where
   single : Phase J
   paired : Phase J
@@ -38,7 +42,7 @@ module _ {J : Type 0} where
   turn_in paired = 0
   turn_in (free n) = n
   turn_in (asked j) = with_hand
-  turn_in (working j) = with_hand
+  turn_in (working j) = when_begun
   turn_in (done j k) = with_caller
   turn_in over = when_over
   turn_in ended = when_over

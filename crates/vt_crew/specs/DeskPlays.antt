@@ -27,9 +27,12 @@ module _ {J : Type 0} where
   abbrev pub TellsDone : Seated J → Type 0
   TellsDone n = IsIdleEnd n
 
-  -- the caller looked: the job that it waits for was done, and it has taken what became of it, or it still waits
-  abbrev pub TakesBack : (J → J → Type 0) → Seated J → ℕ → Seated J → Type 0
-  TakesBack did m r n = MatchBool (r == with_caller) ((k : J) × (n ≡ (Free, (0, Some k) ∷ [])) × ((j : J) → WaitsFor j m → did j k)) (n ≡ m)
+  -- the caller asked for its job: no hand has begun it, and it has taken it back as it was, and it may be done; or it was done, and it has taken
+  -- what became of it; or a hand is at it, and it still waits
+  abbrev pub TakesBack : (J → Type 0) → (J → J → Type 0) → Seated J → ℕ → Seated J → Type 0
+  TakesBack ready did m r n =
+      MatchBool (r == with_hand) ((j : J) × (n ≡ (Free, (0, Some j) ∷ [])) × WaitsFor j m × ready j)
+      (MatchBool (r == with_caller) ((k : J) × (n ≡ (Free, (0, Some k) ∷ [])) × ((j : J) → WaitsFor j m → did j k)) (n ≡ m))
 
   -- the caller left
   abbrev pub LeavesDesk : Seated J → Type 0

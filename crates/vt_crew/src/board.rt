@@ -34,7 +34,7 @@ pub(crate) type Chair<J> = Seat<Option<J>, DeskView<J>>;
 // The word of a new board.
 pub(crate) const NOBODY: u64 = 0;
 
-// The word while the hand has a job.
+// The word while a job lies there for the hand.
 pub(crate) const HAND: u64 = 1;
 
 // The word once the job was done.
@@ -42,6 +42,9 @@ pub(crate) const DONE: u64 = 2;
 
 // The word once the caller has left.
 pub(crate) const OVER: u64 = 3;
+
+// The word once the hand has begun a job.
+pub(crate) const BEGUN: u64 = 4;
 
 /// The board of a desk, and by what each of its ends wakes the other. It has no `Drop`, since a job may lie there.
 pub struct DeskTop<J: Work> {

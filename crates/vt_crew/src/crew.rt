@@ -113,8 +113,8 @@ impl<J: Work> Desks<J> {
         }
     }
 
-    /// Waits until a job was done that was laid on one of these desks, and takes it back.
-    pub fn take_back<Rt: Wait>(&mut self, rt: &Rt, pending: Pending<J>) -> J
+    /// Takes back a job that was laid on one of these desks, once it was done. One that no hand has begun is done in this thread, and else it waits.
+    pub fn take_back<Rt: Threads + Wait>(&mut self, rt: &Rt, pending: Pending<J>) -> J
         ensures { (job : J) → IsJobOf job pending → J.did job result }
     {
         let (job, desk) = pending.wait(rt);

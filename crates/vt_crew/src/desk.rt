@@ -8,26 +8,27 @@ ghost use Rattle.vt_crew.specs.Pendings.{IsJobOf};
 use crate::board::{Chair, DONE, DeskTop, HAND, NOBODY, OVER};
 use crate::ends::{Desk, Hand, Pending};
 use crate::plays::{Begin, Lay, Leave, Pair, Take};
-use crate::work::Work;
+use crate::work::{Work, do_job};
 use atomic_table::Table;
 use std::alloc::{AllocError, AllocFailed, Global};
 use std::hint::spin_loop;
 use std::sync::atomic::AtomicBool;
 use std::sync::atomic::Ordering::SeqCst;
 use std::sync::{Arc, Wait};
-use std::thread::Parker;
+use std::thread::{Parker, Threads};
 
 // How often an end looks at the word before it sleeps. That takes some microseconds, about as long as to wake a thread.
 const LOOKS: u32 = 200;
 
-/// Looks for a turn to come, and gives up after some microseconds. It tells nothing.
-pub(crate) fn look_for<J: Work>(top: &DeskTop<J>, turn: u64) {
+/// Looks for a turn to come, and gives up after some microseconds. No clause says whether it came.
+pub(crate) fn look_for<J: Work>(top: &DeskTop<J>, turn: u64) -> bool {
     for _ in 0..LOOKS {
         if top.board.shared.peek(0) == turn {
-            return;
+            return true;
         }
         spin_loop();
     }
+    false
 }
 
 /// A desk on which nothing lies, and its other end.
@@ -106,24 +107,34 @@ pub(crate) fn give_up<J: Work>(top: Arc<DeskTop<J>>, chair: Chair<J>)
     }
 }
 
-// Takes the job back if it was done.
-fn take_done<J: Work>(top: &DeskTop<J>, chair: &mut Chair<J>) -> Option<J>
+// Takes the job back unless the hand is at it. Where the hand has not begun it, it is done here: so nobody waits for a hand that wakes late.
+fn take_job<J: Work, Rt: Threads + Wait>(
+    rt: &Rt,
+    top: &DeskTop<J>,
+    chair: &mut Chair<J>,
+) -> Option<J>
     requires fits { chair.old.table_id ≡ top.now.board.shared.table_id }
     requires waits { WaitsForSome chair.old.me }
     ensures fits { chair.new.table_id ≡ chair.old.table_id }
     ensures job { MatchOption result (chair.new.me ≡ chair.old.me)
         (λ back. IsFreeEnd chair.new.me × ((job : J) → WaitsFor job chair.old.me → J.did job back)) }
 {
-    look_for(top, DONE);
     let board = &top.board.shared;
-    if board.load::<Take>(chair, 0) != DONE {
-        return None;
+    let turn = board.compare_exchange::<Take>(chair, 0, HAND, NOBODY);
+    if turn == HAND {
+        match board.exchange(chair, 0, None) {
+            Some(job) => Some(do_job(rt, job)),
+            None => unreachable!(),
+        }
+    } else if turn == DONE {
+        board.exchange(chair, 0, None)
+    } else {
+        None
     }
-    board.exchange(chair, 0, None)
 }
 
-// Waits until the job was done, and takes it back.
-fn wait_for<J: Work, Rt: Wait>(rt: &Rt, top: &DeskTop<J>, chair: &mut Chair<J>) -> J
+// Takes the job back once it was done, here or by the hand. A hand that has begun mostly ends soon, so it looks a while before it sleeps.
+fn wait_for<J: Work, Rt: Threads + Wait>(rt: &Rt, top: &DeskTop<J>, chair: &mut Chair<J>) -> J
     requires fits { chair.old.table_id ≡ top.now.board.shared.table_id }
     requires waits { WaitsForSome chair.old.me }
     ensures fits { chair.new.table_id ≡ chair.old.table_id }
@@ -131,9 +142,13 @@ fn wait_for<J: Work, Rt: Wait>(rt: &Rt, top: &DeskTop<J>, chair: &mut Chair<J>) 
     ensures did { (job : J) → WaitsFor job chair.old.me → J.did job result }
 {
     for _ in rt.forever() {
-        match take_done(top, chair) {
+        match take_job(rt, top, chair) {
             Some(job) => return job,
-            None => top.desk_bell.park(rt),
+            None => {
+                if !look_for(top, DONE) {
+                    top.desk_bell.park(rt);
+                }
+            }
         }
     }
     unreachable!()
@@ -192,8 +207,8 @@ impl<J: Work> Desk<J> {
 }
 
 impl<J: Work> Pending<J> {
-    /// Waits until the job was done, and takes it back with the desk.
-    pub(crate) fn wait<Rt: Wait>(self, rt: &Rt) -> (J, Desk<J>)
+    /// Takes the job back with the desk once it was done. A job that the hand has not begun is done here.
+    pub(crate) fn wait<Rt: Threads + Wait>(self, rt: &Rt) -> (J, Desk<J>)
         ensures { (job : J) → IsJobOf job self → J.did job result.0 }
     {
         let Pending { top, mut chair } = self;

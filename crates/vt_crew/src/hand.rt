@@ -5,11 +5,11 @@ ghost use Rattle.std.specs.Thread.{IsSend, IsSync};
 ghost use Rattle.vt_crew.specs.DeskEnds.{HasJob, HasLeftDesk, IsIdleEnd};
 ghost use Rattle.vt_crew.specs.Finds.{HasFound};
 
-use crate::board::{Chair, DONE, DeskTop, HAND, OVER};
+use crate::board::{BEGUN, Chair, DONE, DeskTop, HAND, OVER};
 use crate::desk::{give_up, look_for};
 use crate::ends::Hand;
 use crate::plays::{Look, Tell};
-use crate::work::Work;
+use crate::work::{Work, do_job};
 use std::mem;
 use std::sync::Wait;
 use std::sync::atomic::Ordering::SeqCst;
@@ -25,7 +25,7 @@ enum Found<J> {
     Over,
 }
 
-// Looks for a job, and takes it.
+// Looks for a job, and begins it, so that its caller no longer takes it back undone.
 fn find_job<J: Work>(top: &DeskTop<J>, chair: &mut Chair<J>) -> Found<J>
     requires fits { chair.old.table_id ≡ top.now.board.shared.table_id }
     requires idle { IsIdleEnd chair.old.me }
@@ -34,7 +34,7 @@ fn find_job<J: Work>(top: &DeskTop<J>, chair: &mut Chair<J>) -> Found<J>
 {
     look_for(top, HAND);
     let board = &top.board.shared;
-    let turn = board.load::<Look>(chair, 0);
+    let turn = board.compare_exchange::<Look>(chair, 0, HAND, BEGUN);
     if turn == HAND {
         match board.exchange(chair, 0, None) {
             Some(job) => Found::Job(job),
@@ -45,15 +45,6 @@ fn find_job<J: Work>(top: &DeskTop<J>, chair: &mut Chair<J>) -> Found<J>
     } else {
         Found::Nothing
     }
-}
-
-// Does a job.
-fn do_job<J: Work, Rt: Threads + Wait>(rt: &Rt, mut job: J) -> J
-    requires { J.ready job }
-    ensures { J.did job result }
-{
-    job.work(rt);
-    job
 }
 
 // Does a job, and lays it back.

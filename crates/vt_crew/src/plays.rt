@@ -33,7 +33,7 @@ impl<J> Play<Option<J>, DeskView<J>> for Lay {
     ghost then = { λ step m r n. LaysJob m n };
 }
 
-/// The hand looks whether there is a job, and takes it.
+/// The hand looks whether there is a job, and begins it.
 pub(crate) struct Look;
 
 impl<J: Work> Play<Option<J>, DeskView<J>> for Look {
@@ -51,13 +51,13 @@ impl<J> Play<Option<J>, DeskView<J>> for Tell {
     ghost then = { λ step m r n. TellsDone n };
 }
 
-/// The caller looks whether the job was done, and takes it.
+/// The caller takes its job back, unless the hand is at it.
 pub(crate) struct Take;
 
 impl<J: Work> Play<Option<J>, DeskView<J>> for Take {
     ghost use Rattle.vt_crew.specs.DeskPlays.{TakesBack};
 
-    ghost then = { λ step m r n. TakesBack J.did m r n };
+    ghost then = { λ step m r n. TakesBack J.ready J.did m r n };
 }
 
 /// The caller leaves.

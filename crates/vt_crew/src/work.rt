@@ -1,4 +1,4 @@
-//! What a hand does.
+//! What a hand does, or its caller.
 
 use std::sync::Wait;
 use std::thread::Threads;
@@ -15,4 +15,13 @@ pub trait Work {
     fn work<Rt: Threads + Wait>(&mut self, rt: &Rt)
         requires { ready self.old }
         ensures { did self.old self.new };
+}
+
+/// Does a job.
+pub(crate) fn do_job<J: Work, Rt: Threads + Wait>(rt: &Rt, mut job: J) -> J
+    requires { J.ready job }
+    ensures { J.did job result }
+{
+    job.work(rt);
+    job
 }
