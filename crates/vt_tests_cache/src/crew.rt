@@ -15,6 +15,11 @@ const TURNS: u32 = 50_000_000;
 // The jobs of a round.
 const JOBS: u64 = 4;
 
+// The rounds of small jobs, and how many there are in each. Most are over before a hand has woken for them, so that their caller does them.
+const SMALL_ROUNDS: u64 = 10_000;
+
+const SMALL_JOBS: u64 = 3;
+
 // A job that counts how often it was done, and waits each time until so many jobs were begun that often.
 #[derive(Drop)]
 struct Meeting<'a> {
@@ -109,6 +114,71 @@ fn are_done<Rt: Threads + Wait + Sync>(
 #[test]
 fn three_hands_and_their_caller_do_four_jobs_at_once_and_once_more(rt: HostRuntime) {
     holds(&rt, are_done(&rt, rt.alloc(), 3, JOBS).ok() == Some(true));
+}
+
+// A job that is over at once. It counts how often it was done, and adds its share to a sum each time.
+#[derive(Drop)]
+struct Small<'a> {
+    times: u64,
+    share: u64,
+    sum: &'a AtomicU64,
+}
+
+impl<'a> Work for Small<'a> {
+    ghost ready = { λ small. Unit {0} };
+
+    ghost did = { λ before after. Unit {0} };
+
+    fn work<Rt: Threads + Wait>(&mut self, _rt: &Rt) {
+        self.times = self.times.wrapping_add(1);
+        self.sum.fetch_add(self.share, SeqCst);
+    }
+}
+
+// Many rounds of the same small jobs, once the hands are there.
+#[derive(Drop)]
+struct SmallRounds<'a> {
+    jobs: Vec<Small<'a>>,
+}
+
+impl<'a> Errand<Small<'a>> for SmallRounds<'a> {
+    ghost ready = { λ rounds. Unit {0} };
+
+    ghost did = { λ before after. Unit {0} };
+
+    fn run<Rt: Threads + Wait>(&mut self, rt: &Rt, desks: &mut Desks<Small<'a>>) {
+        wait_for_hands(desks);
+        for _ in 0..SMALL_ROUNDS {
+            desks.work_all(rt, &mut self.jobs);
+        }
+    }
+}
+
+// Whether each small job was done once in each round by two hands and their caller, and the sum is that of all shares.
+fn are_small_done<Rt: Threads + Wait + Sync>(rt: &Rt, alloc: Global) -> Result<bool, AllocError> {
+    let sum = AtomicU64::new(0);
+    let mut rounds = SmallRounds {
+        jobs: Vec::new(alloc),
+    };
+    for share in 0..SMALL_JOBS {
+        rounds.jobs.push(Small {
+            times: 0,
+            share: share + 1,
+            sum: &sum,
+        })?;
+    }
+    run_with_crew(rt, alloc, 2, &mut rounds);
+    for job in rounds.jobs.as_slice() {
+        if job.times != SMALL_ROUNDS {
+            return Ok(false);
+        }
+    }
+    Ok(sum.load(SeqCst) == SMALL_ROUNDS * (1 + 2 + 3))
+}
+
+#[test]
+fn each_of_many_small_jobs_is_done_once_by_two_hands_or_their_caller(rt: HostRuntime) {
+    holds(&rt, are_small_done(&rt, rt.alloc()).ok() == Some(true));
 }
 
 #[test]
