@@ -9,7 +9,19 @@ use crate::ends::{Desk, Hand, Pending};
 use crate::work::Work;
 use std::alloc::Global;
 use std::sync::Wait;
+use std::sync::atomic::AtomicU64;
+use std::thread;
 use std::thread::Threads;
+use std::time::Duration;
+
+// How often a caller looks whether all hands have begun, the first of these looks with no sleep between.
+const LONGEST: u32 = 950;
+
+// How many of the first looks only let other threads go on.
+const YIELDS: u32 = 150;
+
+// For how many microseconds it sleeps before a later look.
+const SLEEP: u64 = 200;
 
 /// The desks of a crew, each with a hand at its other end. They have no `Drop`, so that the hands are told when they end.
 pub struct Desks<J: Work> {
@@ -100,6 +112,20 @@ impl<J: Work> Desks<J> {
             }
         }
         true
+    }
+
+    /// Waits until the hand of each desk serves, for a fifth of a second at most. No clause says so.
+    pub fn await_hands<Rt: Wait>(&self, rt: &Rt) {
+        for look in 0..LONGEST {
+            if self.are_served() {
+                return;
+            }
+            if look < YIELDS {
+                thread::yield_now();
+            } else {
+                AtomicU64::new(0).park_timeout(rt, 0, Duration::from_micros(SLEEP));
+            }
+        }
     }
 
     /// Lays a job on a desk whose hand serves. Where there is none, the job is handed back.
