@@ -17,6 +17,7 @@ pub mod Walks
 pub mod Folders
 pub mod States
 pub mod Reads
+pub mod OutputFolders
 pub mod Moments
 pub mod DrawnBy
 pub mod Written
@@ -32,7 +33,8 @@ pub mod Tallies
 pub mod WalkSteps
 pub mod Following
 pub mod Goings
+pub mod Counts
+pub mod Errands
 pub mod WalkEffects
 pub mod Beginnings
 pub mod Opening
-pub mod Counts

@@ -15,18 +15,21 @@ use std::thread::Threads;
 use vt_evict::Recency;
 use vt_outside::{Gate, NoMemory};
 use vt_pictures::Shot;
-use vt_walk_decisions::{Drawn, Next, PassMachine, PassReport, WalkInput, WalkStep, drawn_of};
+use vt_walk_decisions::{
+    Desks, Drawn, LentWorker, Next, Nothing, PassMachine, PassReport, WalkInput, WalkStep, drawn_of,
+};
 
 /// Draws the next pass of a walk, streams its batch, and plans what comes after it; or does nothing where all pictures are finished.
-pub fn draw_next<Rt: Threads + Wait + Sync, M: PassMachine, G: Gate + Sync>(
+pub fn draw_next<'w, Rt: Threads + Wait, M: PassMachine, G: Gate>(
     rt: &Rt,
+    desks: &mut Desks<LentWorker<'w, M::Shared, M::Loader, M::Sampler, G>>,
     alloc: Global,
     machine: &mut M,
     recency: &mut Recency,
-    input: &WalkInput<'_>,
+    input: &WalkInput<'w>,
     number: u32,
     step: WalkStep,
-    gate: &G,
+    gate: &'w G,
 ) -> Result<Next, NoMemory>
     requires input { IsWalkInput input.now }
     requires idle { M.is_idle machine.old }
@@ -45,22 +48,25 @@ pub fn draw_next<Rt: Threads + Wait + Sync, M: PassMachine, G: Gate + Sync>(
     if step.picture == input.path.pictures() {
         return Ok(Next::End(step.reads));
     }
-    match draw_pass(rt, alloc, machine, recency, input, number, step, gate) {
+    match draw_pass(
+        rt, desks, alloc, machine, recency, input, number, step, gate,
+    ) {
         Ok(drawn) => Ok(Next::Pass(drawn)),
         Err(refusal) => Err(refusal),
     }
 }
 
 // Draws the next pass of a walk, streams its batch, and plans what comes after it.
-fn draw_pass<Rt: Threads + Wait + Sync, M: PassMachine, G: Gate + Sync>(
+fn draw_pass<'w, Rt: Threads + Wait, M: PassMachine, G: Gate>(
     rt: &Rt,
+    desks: &mut Desks<LentWorker<'w, M::Shared, M::Loader, M::Sampler, G>>,
     alloc: Global,
     machine: &mut M,
     recency: &mut Recency,
-    input: &WalkInput<'_>,
+    input: &WalkInput<'w>,
     number: u32,
     step: WalkStep,
-    gate: &G,
+    gate: &'w G,
 ) -> Result<Drawn, NoMemory>
     requires input { IsWalkInput input.now }
     requires idle { M.is_idle machine.old }
@@ -82,7 +88,7 @@ fn draw_pass<Rt: Threads + Wait + Sync, M: PassMachine, G: Gate + Sync>(
         depth: input.depth,
     };
     let start = machine.journal().version();
-    let report = run_pass(rt, machine, &shot, &step.batch, gate)?;
+    let report = run_pass(rt, desks, machine, &shot, &step.batch, gate, &mut Nothing)?;
     plan_on(alloc, machine, recency, input, number, step, start, report)
 }
 

@@ -12,33 +12,42 @@ ghost use Rattle.vt_walk_decisions.specs.Jobs.{job_of};
 ghost use Rattle.vt_walk_decisions.specs.Passes.{MayPrepare, IsJobFor, EndsPassRun};
 ghost use Rattle.vt_walk.specs.Outlooks.{IsOutlook};
 
+use crate::output_folder::OutputFolder;
 use std::alloc::Global;
 use std::sync::Wait;
 use std::thread::Threads;
 use vt_evict::{Batch, Losses, Recency};
 use vt_feedback::Counts;
 use vt_journal::{PassText, add_pass};
-use vt_outside::{Folder, Gate, NoMemory, OutsideError};
+use vt_outside::{Gate, NoMemory, OutsideError};
 use vt_pages::Geometry;
 use vt_pictures::Shot;
-use vt_walk_decisions::{NextPlan, PassMachine, PassReport};
+use vt_walk_decisions::{Desks, LentWorker, Meanwhile, NextPlan, PassMachine, PassReport};
 
-/// Prepares a pass for a batch and runs it.
-pub fn run_pass<Rt: Threads + Wait + Sync, M: PassMachine, G: Gate + Sync>(
+/// Prepares a pass for a batch and runs it by hands at these desks. What the caller does meanwhile is done in any case, also where memory is
+/// refused.
+pub fn run_pass<'w, Rt: Threads + Wait, M: PassMachine, G: Gate, A: Meanwhile>(
     rt: &Rt,
+    desks: &mut Desks<LentWorker<'w, M::Shared, M::Loader, M::Sampler, G>>,
     machine: &mut M,
-    shot: &Shot<'_>,
+    shot: &Shot<'w>,
     batch: &Batch,
-    gate: &G,
+    gate: &'w G,
+    meanwhile: &mut A,
 ) -> Result<PassReport, NoMemory>
     requires idle { M.is_idle machine.old }
     requires may { MayPrepare (M.state machine.old) batch.now.elements }
     requires job { IsJobFor (M.state machine.old).setup (job_of shot.now batch.now.elements) }
-    ensures { EndsPassRun M.drawing (M.drawn machine.new) (M.is_idle machine.new)
+    requires meanwhile { A.ready meanwhile.old }
+    ensures ran { EndsPassRun M.drawing (M.drawn machine.new) (M.is_idle machine.new)
         (job_of shot.now batch.now.elements) result (M.state machine.old) (M.state machine.new) }
+    ensures meanwhile { A.did meanwhile.old meanwhile.new }
 {
-    machine.prepare(rt, batch)?;
-    machine.run(rt, shot, batch, gate)
+    if let Err(refusal) = machine.prepare(rt, batch) {
+        meanwhile.act();
+        return Err(refusal);
+    }
+    machine.run(rt, desks, shot, batch, gate, meanwhile)
 }
 
 /// Settles a batch of which some entries were lost, makes the pages that the counts want the most recent ones, and
@@ -83,7 +92,7 @@ fn make_text(buffer: &mut Vec<u8>, geometry: &Geometry, pass: &PassText) -> Resu
 
 /// Adds the text of a pass, which is made in a buffer, to the journal, in one call. After a refusal a prefix of
 /// it was added.
-pub fn journal_pass<D: Folder>(
+pub fn journal_pass<D: OutputFolder>(
     buffer: &mut Vec<u8>,
     folder: &mut D,
     journal: &str,
@@ -104,5 +113,5 @@ pub fn journal_pass<D: Folder>(
     ensures faults { D.faults folder.old ≤ D.faults folder.new }
 {
     make_text(buffer, geometry, pass)?;
-    folder.append(journal, buffer)
+    folder.extend_file(journal, buffer)
 }

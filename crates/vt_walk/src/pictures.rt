@@ -12,9 +12,10 @@ ghost use Rattle.vt_walk.specs.Logs.{end_line};
 ghost use Rattle.vt_walk.specs.Tallies.{numbers_line};
 
 use crate::files::write_file;
+use crate::output_folder::OutputFolder;
 use std::alloc::Global;
 use vt_camera::Path;
-use vt_outside::{Folder, NoMemory, OutsideError, Sink};
+use vt_outside::{NoMemory, OutsideError, Sink};
 use vt_pictures::picture_name;
 use vt_ppm::begin_picture;
 use vt_text::{LINE_ROOM, Line};
@@ -22,7 +23,7 @@ use vt_walk_decisions::{PassMachine, Tally};
 
 /// Writes the picture of a machine's last pass under its name, by one creation and one append. After a refusal the
 /// name is as before, or holds a prefix of its bytes. These are made in the buffer.
-pub fn write_picture<D: Folder, M: PassMachine>(
+pub fn write_picture<D: OutputFolder, M: PassMachine>(
     buffer: &mut Vec<u8>,
     alloc: Global,
     folder: &mut D,

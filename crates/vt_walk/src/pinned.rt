@@ -22,7 +22,7 @@ use vt_walk_decisions::{PassMachine, pinned_page};
 
 /// Reads the tile of each pinned page, the last so many pages, from the store in the order of their indexes, and
 /// places it: the first in frame 0, and each further one in the next frame (Mayer 2010).
-pub fn place_pinned<Rt: Threads + Wait + Sync, M: PassMachine, F: File>(
+pub fn place_pinned<Rt: Threads + Wait, M: PassMachine, F: File>(
     rt: &Rt,
     alloc: Global,
     machine: &mut M,
@@ -65,7 +65,7 @@ pub fn place_pinned<Rt: Threads + Wait + Sync, M: PassMachine, F: File>(
 }
 
 // Reads the tile of a page, and places it in a frame.
-fn place_page<Rt: Threads + Wait + Sync, M: PassMachine, F: File>(
+fn place_page<Rt: Threads + Wait, M: PassMachine, F: File>(
     rt: &Rt,
     machine: &mut M,
     store: &mut Store<F>,

@@ -16,7 +16,7 @@ use std::thread::Threads;
 use vt_camera::Path;
 use vt_outside::{Folder, Gate, Sink};
 use vt_tiles::Store;
-use vt_walk_decisions::{Names, PassMachine, Settings, WalkError};
+use vt_walk_decisions::{Names, SentMachine, Settings, WalkError};
 
 /// Walks over all pictures of a path by a machine, live or settled.
 ///
@@ -35,7 +35,7 @@ use vt_walk_decisions::{Names, PassMachine, Settings, WalkError};
 /// that lost it was told. It may wait.
 pub fn walk_with<
     Rt: Threads + Wait + Sync,
-    M: PassMachine<File = D::File> + Send,
+    M: SentMachine<File = D::File>,
     D: Folder,
     O: Sink,
     G: Gate + Sync,

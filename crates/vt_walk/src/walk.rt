@@ -18,10 +18,11 @@ ghost use Rattle.vt_walk.specs.Moments.{traces, KeepsTraces};
 ghost use Rattle.vt_walk_decisions.specs.Requests.{counts_of};
 ghost use Rattle.vt_walk.specs.Closing.{AreFresh, AreOtherNamesAsBefore, HasClosed};
 
+use crate::errand::walk_by_crew;
 use crate::files::begin_journal;
 use crate::loaders::{close_stores, open_loaders};
 use crate::pinned::place_pinned;
-use crate::walk_steps::{Walked, walk_on};
+use crate::walk_steps::Walked;
 use std::alloc::Global;
 use std::sync::Wait;
 use std::thread::Threads;
@@ -30,14 +31,14 @@ use vt_evict::Recency;
 use vt_outside::{Folder, Gate, Sink};
 use vt_tiles::{Store, Stores};
 use vt_walk_decisions::{
-    Mode, Names, PassMachine, Settings, WalkError, WalkInput, has_too_few_frames,
+    Mode, Names, PassMachine, SentMachine, Settings, WalkError, WalkInput, has_too_few_frames,
 };
 
 /// Walks over all pictures of a path by a machine, as `walk_with` does, and answers how many passes it had and how
 /// many tiles it asked for: those of a whole run. Conditions, refusals and causes are those of `walk_with`.
 pub fn walk_counted<
     Rt: Threads + Wait + Sync,
-    M: PassMachine<File = D::File> + Send,
+    M: SentMachine<File = D::File>,
     D: Folder,
     O: Sink,
     G: Gate + Sync,
@@ -97,8 +98,9 @@ fn mode_of(settled: bool) -> Mode
 
 // Walks over all pictures, with the store's file that is open. Fewer frames than pinned pages are refused first.
 fn walk_store<
+    'w,
     Rt: Threads + Wait + Sync,
-    M: PassMachine<File = D::File> + Send,
+    M: SentMachine<File = D::File>,
     D: Folder,
     O: Sink,
     G: Gate + Sync,
@@ -107,9 +109,9 @@ fn walk_store<
     alloc: Global,
     folder: &mut D,
     store: &mut Store<D::File>,
-    input: &WalkInput<'_>,
+    input: &WalkInput<'w>,
     out: &mut O,
-    gate: &G,
+    gate: &'w G,
 ) -> Result<Walked, WalkError>
     requires input { IsWalkInput input.now }
     requires shape { store.old.shape ≡ input.now.geometry.now }
@@ -152,8 +154,9 @@ fn walk_store<
 
 // Walks over all pictures by a machine that is made with the stores of its loaders.
 fn walk_stores<
+    'w,
     Rt: Threads + Wait + Sync,
-    M: PassMachine<File = D::File> + Send,
+    M: SentMachine<File = D::File>,
     D: Folder,
     O: Sink,
     G: Gate + Sync,
@@ -163,9 +166,9 @@ fn walk_stores<
     folder: &mut D,
     store: &mut Store<D::File>,
     stores: Stores<D::File>,
-    input: &WalkInput<'_>,
+    input: &WalkInput<'w>,
     out: &mut O,
-    gate: &G,
+    gate: &'w G,
 ) -> Result<Walked, WalkError>
     requires input { IsWalkInput input.now }
     requires enough_frames { input.now.pinned ≤ input.now.settings.frames }
@@ -206,8 +209,9 @@ fn walk_stores<
 
 // Walks over all pictures by a machine, and closes the files of its loaders.
 fn walk_machine<
+    'w,
     Rt: Threads + Wait + Sync,
-    M: PassMachine<File = D::File> + Send,
+    M: SentMachine<File = D::File>,
     D: Folder,
     O: Sink,
     G: Gate + Sync,
@@ -217,9 +221,9 @@ fn walk_machine<
     folder: &mut D,
     store: &mut Store<D::File>,
     mut machine: M,
-    input: &WalkInput<'_>,
+    input: &WalkInput<'w>,
     out: &mut O,
-    gate: &G,
+    gate: &'w G,
 ) -> Result<Walked, WalkError>
     requires input { IsWalkInput input.now }
     requires enough_frames { input.now.pinned ≤ input.now.settings.frames }
@@ -247,10 +251,11 @@ fn walk_machine<
     walked
 }
 
-// Places the pinned pages, begins the journal, and walks over all pictures.
+// Places the pinned pages, begins the journal, and walks over all pictures by the hands of a crew.
 fn walk_all<
+    'w,
     Rt: Threads + Wait + Sync,
-    M: PassMachine<File = D::File> + Send,
+    M: SentMachine<File = D::File>,
     D: Folder,
     O: Sink,
     G: Gate + Sync,
@@ -260,9 +265,9 @@ fn walk_all<
     folder: &mut D,
     store: &mut Store<D::File>,
     machine: &mut M,
-    input: &WalkInput<'_>,
+    input: &WalkInput<'w>,
     out: &mut O,
-    gate: &G,
+    gate: &'w G,
 ) -> Result<Walked, WalkError>
     requires input { IsWalkInput input.now }
     requires enough_frames { input.now.pinned ≤ input.now.settings.frames }
@@ -284,22 +289,11 @@ fn walk_all<
         (traces D.Folder O.Sink folder.new out.new (M.state machine.new).files) }
 {
     let mut recency = begin(rt, alloc, folder, store, machine, input)?;
-    let mut buffer = Vec::new(alloc);
-    walk_on(
-        rt,
-        alloc,
-        folder,
-        machine,
-        &mut recency,
-        input,
-        &mut buffer,
-        out,
-        gate,
-    )
+    walk_by_crew(rt, alloc, folder, machine, &mut recency, input, out, gate)
 }
 
 // Places the pinned pages, and begins the journal.
-fn begin<Rt: Threads + Wait + Sync, M: PassMachine, D: Folder>(
+fn begin<Rt: Threads + Wait, M: PassMachine, D: Folder>(
     rt: &Rt,
     alloc: Global,
     folder: &mut D,

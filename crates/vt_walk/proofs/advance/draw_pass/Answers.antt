@@ -26,10 +26,10 @@ plan_on-requires-clause-ran g c κs within = (
     start_is = c.version-start.ensures.version ∙ ap (λ (x : List Change). length x) c.journal.ensures;
     ran = ran_anyhow g.M.PassMachine.drawing (g.M.PassMachine.drawn c.run_pass.new.machine)
         (record { scene = input_scene c.args.input.now; picture = c.args.step.picture; batch = c.args.step.batch.elements })
-        c.in_ok-report.report (g.M.PassMachine.state c.args.machine.now) (g.M.PassMachine.state c.run_pass.new.machine) c.in_ok-report.ensures.ran;
+        c.in_ok-report.report (g.M.PassMachine.state c.args.machine.now) (g.M.PassMachine.state c.run_pass.new.machine) c.in_ok-report.ensures.ran.ran;
     by = drawn_by_some g.M.PassMachine c.run_pass.new.machine
         (record { scene = input_scene c.args.input.now; picture = c.args.step.picture; batch = c.args.step.batch.elements })
-        c.in_ok-report.report (g.M.PassMachine.state c.args.machine.now) c.in_ok-report.ensures.goes_on c.in_ok-report.ensures.ran;
+        c.in_ok-report.report (g.M.PassMachine.state c.args.machine.now) c.in_ok-report.ensures.ran.goes_on c.in_ok-report.ensures.ran.ran;
   },
 )
 
@@ -38,7 +38,7 @@ returns-in_err-report-clause-refused g c =
     let p = err_from_is_err_and c.from_residual.result c.from_residual.ensures.1 in
     rw p.1 (read_broken g.M.PassMachine.drawing c.args.input.now c.requires.may.0
     c.requires.may.1 c.args.number c.args.step (g.M.PassMachine.state c.args.machine.now) (g.M.PassMachine.state c.run_pass.new.machine)
-    c.args.recency.now c.requires.may.2 c.in_err-report.ensures.broke)
+    c.args.recency.now c.requires.may.2 c.in_err-report.ensures.ran.broke)
 
 pub returns-clause-drawn : goal.returns-clause-drawn
 returns-clause-drawn g c = λ known run may. c.plan_on.ensures
@@ -48,13 +48,13 @@ returns-clause-drawn g c = λ known run may. c.plan_on.ensures
       start_is = c.version-start.ensures.version ∙ ap (λ (x : List Change). length x) c.journal.ensures;
       ran = ran_anyhow g.M.PassMachine.drawing (g.M.PassMachine.drawn c.run_pass.new.machine)
           (record { scene = input_scene c.args.input.now; picture = c.args.step.picture; batch = c.args.step.batch.elements })
-          c.in_ok-report.report (g.M.PassMachine.state c.args.machine.now) (g.M.PassMachine.state c.run_pass.new.machine) c.in_ok-report.ensures.ran;
+          c.in_ok-report.report (g.M.PassMachine.state c.args.machine.now) (g.M.PassMachine.state c.run_pass.new.machine) c.in_ok-report.ensures.ran.ran;
       by = drawn_by_some g.M.PassMachine c.run_pass.new.machine
           (record { scene = input_scene c.args.input.now; picture = c.args.step.picture; batch = c.args.step.batch.elements })
-          c.in_ok-report.report (g.M.PassMachine.state c.args.machine.now) c.in_ok-report.ensures.goes_on c.in_ok-report.ensures.ran;
+          c.in_ok-report.report (g.M.PassMachine.state c.args.machine.now) c.in_ok-report.ensures.ran.goes_on c.in_ok-report.ensures.ran.ran;
     })
 
 pub returns-clause-refused : goal.returns-clause-refused
 returns-clause-refused g c = OnErr-all c.plan_on.result _ (read_at_most g.M.PassMachine.drawing c.args.input.now c.requires.may.0
     (g.M.PassMachine.drawn c.run_pass.new.machine) c.requires.may.1 c.args.number c.args.step (g.M.PassMachine.state c.args.machine.now)
-    (g.M.PassMachine.state c.run_pass.new.machine) c.args.recency.now c.in_ok-report.report c.requires.may.2 c.in_ok-report.ensures.ran)
+    (g.M.PassMachine.state c.run_pass.new.machine) c.args.recency.now c.in_ok-report.report c.requires.may.2 c.in_ok-report.ensures.ran.ran)

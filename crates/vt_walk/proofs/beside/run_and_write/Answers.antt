@@ -1,11 +1,7 @@
-use Rattle.std.proofs.Common.{rules}
 use Rattle.vt_walk_decisions.specs.Jobs.{job_of}
 use Rattle.vt_walk.proofs.Advancing.{read_for_job}
 use Rattle.vt_walk.proofs.beside.run_and_write.Goals as goal
 
 pub returns-clause-read : goal.returns-clause-read
-returns-clause-read g c =
-    let names = c.join_mut.ensures.0.met.0 in
-    let machine_is = c.machine-1.given.1 (search rules) in
-    rw machine_is (read_for_job g.M.PassMachine.drawing _ _ (job_of c.args.shot.now c.args.batch.now.elements)
-    (g.M.PassMachine.state c.args.machine.now) _ _ c.requires.job c.join_mut.ensures.0.met.1)
+returns-clause-read g c = read_for_job g.M.PassMachine.drawing _ _ (job_of c.args.shot.now c.args.batch.now.elements)
+    (g.M.PassMachine.state c.args.machine.now) _ _ c.requires.job c.run_pass-ran.ensures.ran

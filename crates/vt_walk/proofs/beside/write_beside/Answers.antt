@@ -9,6 +9,7 @@ use Rattle.vt_walk.specs.WalkInputs.{input_scene}
 use Rattle.vt_walk.specs.DrawnBy.{IsDrawnBySome}
 use Rattle.vt_walk.proofs.Advancing.{ran_anyhow, drawn_by_some}
 use Rattle.vt_walk.proofs.Besides.{may_prepare_next, is_next_job, picture_left, line_left, pass_left, pass_ran}
+use Rattle.vt_walk.specs.OutputFolders.{folder_of}
 use Rattle.vt_walk.proofs.beside.write_beside.Goals as goal
 
 pub run_and_write-ran-requires-clause-may : goal.run_and_write-ran-requires-clause-may
@@ -18,7 +19,7 @@ run_and_write-ran-requires-clause-may g c κs within =
     (g.met.M.PassMachine g.world.𝓛 g.world.𝓜 g.world.𝓡 ((λ s x. x), (λ x. x), (λ x. x), λ x. x)).shows_whole
     c.args.input.now b.known c.requires.stands.0 c.args.passed.now b.first
     (g.M.PassMachine.state c.args.machine.now) c.requires.stands.1 c.requires.input c.requires.goes_on c.requires.followed
-    (walk_state g.D.Folder c.args.input.now.names.store.now c.args.folder.now (b.kept ∷ (g.M.PassMachine.state c.args.machine.now).files)
+    (walk_state (folder_of g.D.OutputFolder) c.args.input.now.names.store.now c.args.folder.now (b.kept ∷ (g.M.PassMachine.state c.args.machine.now).files)
     (g.O.Sink.held c.args.out.now) (g.O.Sink.faults c.args.out.now)) c.requires.stands.4 c.requires.stands.3
 
 pub run_and_write-ran-requires-clause-job : goal.run_and_write-ran-requires-clause-job
@@ -28,7 +29,7 @@ run_and_write-ran-requires-clause-job g c κs within =
     (g.met.M.PassMachine g.world.𝓛 g.world.𝓜 g.world.𝓡 ((λ s x. x), (λ x. x), (λ x. x), λ x. x)).shows_whole
     c.args.input.now b.known c.requires.stands.0 c.args.passed.now b.first
     (g.M.PassMachine.state c.args.machine.now) c.requires.stands.1 c.requires.input c.requires.goes_on c.requires.followed
-    (walk_state g.D.Folder c.args.input.now.names.store.now c.args.folder.now (b.kept ∷ (g.M.PassMachine.state c.args.machine.now).files)
+    (walk_state (folder_of g.D.OutputFolder) c.args.input.now.names.store.now c.args.folder.now (b.kept ∷ (g.M.PassMachine.state c.args.machine.now).files)
     (g.O.Sink.held c.args.out.now) (g.O.Sink.faults c.args.out.now)) c.requires.stands.4
 
 pub returns-in_err-written-clause-ran : goal.returns-in_err-written-clause-ran
@@ -38,7 +39,7 @@ returns-in_err-written-clause-ran g c =
     (g.met.M.PassMachine g.world.𝓛 g.world.𝓜 g.world.𝓡 ((λ s x. x), (λ x. x), (λ x. x), λ x. x)).shows_whole
     c.args.input.now b.known number c.args.passed.now b.first
     (g.M.PassMachine.state c.args.machine.now) v c.requires.input c.requires.goes_on c.requires.followed
-    g.D.Folder c.args.input.now.names.store.now b.kept (g.O.Sink.held c.args.out.now) (g.O.Sink.faults c.args.out.now) c.args.folder.now
+    (folder_of g.D.OutputFolder) c.args.input.now.names.store.now b.kept (g.O.Sink.held c.args.out.now) (g.O.Sink.faults c.args.out.now) c.args.folder.now
     c.run_and_write-ran.new.folder c.args.name.now c.args.bytes.now c.run_and_write-ran.result.1 (g.M.PassMachine.state c.run_and_write-ran.new.machine)
     c.requires.name c.requires.bytes c.run_and_write-ran.ensures.written
     c.run_and_write-ran.ensures.read at _ p.0 c.in_err-written.was p.2)
@@ -50,7 +51,7 @@ returns-in_err-put_picture_line-clause-ran g c =
     (g.met.M.PassMachine g.world.𝓛 g.world.𝓜 g.world.𝓡 ((λ s x. x), (λ x. x), (λ x. x), λ x. x)).shows_whole
     c.args.input.now b.known number c.args.passed.now b.first
     (g.M.PassMachine.state c.args.machine.now) v c.requires.input c.requires.goes_on c.requires.followed
-    g.D.Folder c.args.input.now.names.store.now b.kept (g.O.Sink.held c.args.out.now) (g.O.Sink.faults c.args.out.now) c.args.folder.now
+    (folder_of g.D.OutputFolder) c.args.input.now.names.store.now b.kept (g.O.Sink.held c.args.out.now) (g.O.Sink.faults c.args.out.now) c.args.folder.now
     c.run_and_write-ran.new.folder c.args.name.now c.args.bytes.now c.run_and_write-ran.result.1 (g.M.PassMachine.state c.run_and_write-ran.new.machine)
     c.requires.name c.requires.bytes c.run_and_write-ran.ensures.written
     c.run_and_write-ran.ensures.read at _ c.in_ok-written.was (g.O.Sink.held c.put_picture_line.new.out) (g.O.Sink.faults c.put_picture_line.new.out)
@@ -64,7 +65,7 @@ returns-in_err-report-clause-ran g c =
     (g.met.M.PassMachine g.world.𝓛 g.world.𝓜 g.world.𝓡 ((λ s x. x), (λ x. x), (λ x. x), λ x. x)).shows_whole
     c.args.input.now b.known number c.args.passed.now b.first
     (g.M.PassMachine.state c.args.machine.now) v c.requires.input c.requires.goes_on c.requires.followed
-    g.D.Folder c.args.input.now.names.store.now b.kept (g.O.Sink.held c.args.out.now) (g.O.Sink.faults c.args.out.now) c.args.folder.now
+    (folder_of g.D.OutputFolder) c.args.input.now.names.store.now b.kept (g.O.Sink.held c.args.out.now) (g.O.Sink.faults c.args.out.now) c.args.folder.now
     c.run_and_write-ran.new.folder c.args.name.now c.args.bytes.now c.run_and_write-ran.result.1 (g.M.PassMachine.state c.run_and_write-ran.new.machine)
     c.requires.name c.requires.bytes c.run_and_write-ran.ensures.written
     c.run_and_write-ran.ensures.read at _ c.in_ok-written.was (g.O.Sink.held c.put_picture_line.new.out) (g.O.Sink.faults c.put_picture_line.new.out)
@@ -83,7 +84,7 @@ returns-clause-ran g c =
     (g.met.M.PassMachine g.world.𝓛 g.world.𝓜 g.world.𝓡 ((λ s x. x), (λ x. x), (λ x. x), λ x. x)).shows_whole
     c.args.input.now b.known number c.args.passed.now b.first
     (g.M.PassMachine.state c.args.machine.now) v c.requires.input c.requires.goes_on c.requires.followed
-    g.D.Folder c.args.input.now.names.store.now b.kept (g.O.Sink.held c.args.out.now) (g.O.Sink.faults c.args.out.now) c.args.folder.now
+    (folder_of g.D.OutputFolder) c.args.input.now.names.store.now b.kept (g.O.Sink.held c.args.out.now) (g.O.Sink.faults c.args.out.now) c.args.folder.now
     c.run_and_write-ran.new.folder c.args.name.now c.args.bytes.now c.run_and_write-ran.result.1 (g.M.PassMachine.state c.run_and_write-ran.new.machine)
     c.requires.name c.requires.bytes c.run_and_write-ran.ensures.written
     c.run_and_write-ran.ensures.read at _ c.in_ok-written.was (g.O.Sink.held c.put_picture_line.new.out) (g.O.Sink.faults c.put_picture_line.new.out)

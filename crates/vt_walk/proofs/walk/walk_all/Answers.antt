@@ -19,8 +19,8 @@ returns-in_err-recency-clause-walked g c =
     (file_state g.D.File.File c.begin.new.store.file ∷ (g.M.PassMachine.state c.begin.new.machine).files) (g.O.Sink.held c.args.out.now)
     (g.O.Sink.faults c.args.out.now))) (sym p.2) (c.in_err-recency.ensures.begun (g.O.Sink.held c.args.out.now) (g.O.Sink.faults c.args.out.now)))
 
-pub walk_on-requires-clause-stands : goal.walk_on-requires-clause-stands
-walk_on-requires-clause-stands g c κs within = (
+pub walk_by_crew-requires-clause-stands : goal.walk_by_crew-requires-clause-stands
+walk_by_crew-requires-clause-stands g c κs within = (
   (record {
     known = g.D.File.File.bytes c.args.store.now.file;
     kept = file_state g.D.File.File
@@ -33,7 +33,7 @@ walk_on-requires-clause-stands g c κs within = (
 )
 
 pub returns-clause-walked : goal.returns-clause-walked
-returns-clause-walked g c = c.walk_on.ensures.walked (record {
+returns-clause-walked g c = c.walk_by_crew.ensures.walked (record {
   known = g.D.File.File.bytes c.args.store.now.file;
   kept = file_state g.D.File.File
       c.begin.new.store.file;
@@ -43,7 +43,7 @@ returns-clause-walked g c = c.walk_on.ensures.walked (record {
 }) (c.in_ok-recency.ensures.begun (g.O.Sink.held c.args.out.now) (g.O.Sink.faults c.args.out.now))
 
 pub returns-clause-counted : goal.returns-clause-counted
-returns-clause-counted g c = c.walk_on.ensures.counted
+returns-clause-counted g c = c.walk_by_crew.ensures.counted
 
 pub returns-in_err-recency-clause-store : goal.returns-in_err-recency-clause-store
 returns-in_err-recency-clause-store g c = c.begin.ensures.kept.store
@@ -55,4 +55,4 @@ pub returns-clause-store : goal.returns-clause-store
 returns-clause-store g c = c.begin.ensures.kept.store
 
 pub returns-clause-kept : goal.returns-clause-kept
-returns-clause-kept g c = kept_on _ _ _ (begun_keeps g.D.Folder _ _ _ _ _ _ _ c.begin.ensures.kept) c.walk_on.ensures.kept
+returns-clause-kept g c = kept_on _ _ _ (begun_keeps g.D.Folder _ _ _ _ _ _ _ c.begin.ensures.kept) c.walk_by_crew.ensures.kept

@@ -9,6 +9,7 @@ use Rattle.vt_walk_decisions.specs.Judging.{IsEnd}
 use Rattle.vt_walk.proofs.Ending.{same_picture, next_picture, picture_broke, line_broke}
 use Rattle.vt_walk.proofs.Going.{room_left}
 use Rattle.vt_walk.proofs.Keeping.{kept_here}
+use Rattle.vt_walk.specs.OutputFolders.{folder_of}
 use Rattle.vt_walk.proofs.walk_steps.end_step.Goals as goal
 
 pub returns-then-not-is_finished-clause-ended : goal.returns-then-not-is_finished-clause-ended
@@ -18,7 +19,7 @@ returns-then-not-is_finished-clause-ended g c =
     c.args.input.now.settings
     c.args.input.now.mode b.known (names_of c.args.input.now.names)
     number c.args.passed b.first (g.M.PassMachine.state c.args.machine.now) v
-    (walk_state g.D.Folder c.args.input.now.names.store.now c.args.folder.now (b.kept ∷ (g.M.PassMachine.state c.args.machine.now).files)
+    (walk_state (folder_of g.D.OutputFolder) c.args.input.now.names.store.now c.args.folder.now (b.kept ∷ (g.M.PassMachine.state c.args.machine.now).files)
     (g.O.Sink.held c.args.out.now) (g.O.Sink.faults c.args.out.now))
     at c.requires.goes_on.none_lost (room_left c.args.input.now c.args.passed c.requires.input c.requires.goes_on)
     (subst (λ (b : Bool). MatchBool b (IsEnd c.args.input.now.mode c.args.passed.loads_nothing c.args.passed.next_plan.plan.elements)
@@ -36,9 +37,9 @@ returns-in_err-write_picture-clause-ended g c =
     (IsDrawnBySome g.M.PassMachine) g.met.M.PassMachine.shows_whole (input_scene c.args.input.now) c.args.input.now.settings
     c.args.input.now.mode b.known (names_of c.args.input.now.names)
     number c.args.passed b.first (g.M.PassMachine.state c.args.machine.now) v c.args.input.now.names.store.now b.kept
-    (g.D.Folder.files c.args.folder.now) (g.D.Folder.files c.write_picture.new.folder)
-    (g.D.Folder.asked c.args.folder.now) (g.D.Folder.asked c.write_picture.new.folder) (g.D.Folder.faults c.args.folder.now)
-    (g.D.Folder.faults c.write_picture.new.folder)
+    (g.D.OutputFolder.files c.args.folder.now) (g.D.OutputFolder.files c.write_picture.new.folder)
+    (g.D.OutputFolder.asked c.args.folder.now) (g.D.OutputFolder.asked c.write_picture.new.folder) (g.D.OutputFolder.faults c.args.folder.now)
+    (g.D.OutputFolder.faults c.write_picture.new.folder)
     (g.O.Sink.held c.args.out.now) (g.O.Sink.held c.args.out.now) (g.O.Sink.faults c.args.out.now) (g.O.Sink.faults c.args.out.now)
     (g.M.PassMachine.state c.args.machine.now).files (inl refl) _ p.0 at c.requires.goes_on.none_lost (room_left c.args.input.now c.args.passed c.requires.input c.requires.goes_on)
     (subst (λ (b : Bool). MatchBool b (IsEnd c.args.input.now.mode c.args.passed.loads_nothing c.args.passed.next_plan.plan.elements)
@@ -54,9 +55,9 @@ returns-in_err-put_picture_line-clause-ended g c =
     (IsDrawnBySome g.M.PassMachine) g.met.M.PassMachine.shows_whole (input_scene c.args.input.now) c.args.input.now.settings
     c.args.input.now.mode b.known (names_of c.args.input.now.names)
     number c.args.passed b.first (g.M.PassMachine.state c.args.machine.now) v c.args.input.now.names.store.now b.kept
-    (g.D.Folder.files c.args.folder.now) (g.D.Folder.files c.write_picture.new.folder)
-    (g.D.Folder.asked c.args.folder.now) (g.D.Folder.asked c.write_picture.new.folder) (g.D.Folder.faults c.args.folder.now)
-    (g.D.Folder.faults c.write_picture.new.folder)
+    (g.D.OutputFolder.files c.args.folder.now) (g.D.OutputFolder.files c.write_picture.new.folder)
+    (g.D.OutputFolder.asked c.args.folder.now) (g.D.OutputFolder.asked c.write_picture.new.folder) (g.D.OutputFolder.faults c.args.folder.now)
+    (g.D.OutputFolder.faults c.write_picture.new.folder)
     (g.O.Sink.held c.args.out.now) (g.O.Sink.held c.put_picture_line.new.out) (g.O.Sink.faults c.args.out.now) (g.O.Sink.faults c.put_picture_line.new.out)
     (g.M.PassMachine.state c.args.machine.now).files (inl refl) _ p.0 at c.requires.goes_on.none_lost (room_left c.args.input.now c.args.passed c.requires.input c.requires.goes_on)
     (subst (λ (b : Bool). MatchBool b (IsEnd c.args.input.now.mode c.args.passed.loads_nothing c.args.passed.next_plan.plan.elements)
@@ -75,9 +76,9 @@ returns-clause-ended g c = λ number v b at. next_picture g.M.PassMachine.drawin
     (IsDrawnBySome g.M.PassMachine) g.met.M.PassMachine.shows_whole (input_scene c.args.input.now) c.args.input.now.settings c.args.input.now.mode
     b.known (names_of c.args.input.now.names)
     number c.args.passed b.first (g.M.PassMachine.state c.args.machine.now) v c.args.input.now.names.store.now b.kept
-    (g.D.Folder.files c.args.folder.now) (g.D.Folder.files c.write_picture.new.folder)
-    (g.D.Folder.asked c.args.folder.now) (g.D.Folder.asked c.write_picture.new.folder) (g.D.Folder.faults c.args.folder.now)
-    (g.D.Folder.faults c.write_picture.new.folder)
+    (g.D.OutputFolder.files c.args.folder.now) (g.D.OutputFolder.files c.write_picture.new.folder)
+    (g.D.OutputFolder.asked c.args.folder.now) (g.D.OutputFolder.asked c.write_picture.new.folder) (g.D.OutputFolder.faults c.args.folder.now)
+    (g.D.OutputFolder.faults c.write_picture.new.folder)
     (g.O.Sink.held c.args.out.now) (g.O.Sink.held c.put_picture_line.new.out) (g.O.Sink.faults c.args.out.now) (g.O.Sink.faults c.put_picture_line.new.out)
     at c.requires.goes_on.none_lost (room_left c.args.input.now c.args.passed c.requires.input c.requires.goes_on)
     (subst (λ (b : Bool). MatchBool b (IsEnd c.args.input.now.mode c.args.passed.loads_nothing c.args.passed.next_plan.plan.elements)

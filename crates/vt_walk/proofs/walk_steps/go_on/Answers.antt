@@ -9,6 +9,7 @@ use Rattle.vt_walk.specs.DrawnBy.{IsDrawnBySome}
 use Rattle.vt_walk.specs.WalkEffects.{state_by}
 use Rattle.vt_walk.proofs.Aheads.{may_turn, next_stands}
 use Rattle.vt_walk.proofs.Passing.{pass_broke}
+use Rattle.vt_walk.specs.OutputFolders.{folder_of}
 use Rattle.vt_walk.proofs.walk_steps.go_on.Goals as goal
 
 pub draw_beside-requires-clause-followed : goal.draw_beside-requires-clause-followed
@@ -23,7 +24,7 @@ draw_next-requires-clause-may g c κs within =
       s.run,
       may_turn (IsDrawnBySome g.M.PassMachine) (given_of g.M.PassMachine.drawing c.args.input.now b.known) b.first (c.args.number + 1)
           c.in_ok-step.step
-          (walk_state g.D.Folder c.args.input.now.names.store.now c.end_step.new.folder (b.kept ∷ (g.M.PassMachine.state c.args.machine.now).files)
+          (walk_state (folder_of g.D.OutputFolder) c.args.input.now.names.store.now c.end_step.new.folder (b.kept ∷ (g.M.PassMachine.state c.args.machine.now).files)
           (g.O.Sink.held c.end_step.new.out) (g.O.Sink.faults c.end_step.new.out)) (g.M.PassMachine.state c.args.machine.now) c.args.recency.now s,
     )
 
@@ -32,7 +33,7 @@ returns-in_err-step-clause-taken g c =
     let p = err_from_is_err_and c.from_residual.result c.from_residual.ensures.1 in
     λ b at. rw p.1 (subst (LeftByRefusal (IsDrawnBySome g.M.PassMachine)
     (given_of g.M.PassMachine.drawing c.args.input.now b.known) b.first
-    (walk_state g.D.Folder c.args.input.now.names.store.now c.end_step.new.folder (b.kept ∷ (g.M.PassMachine.state c.args.machine.now).files)
+    (walk_state (folder_of g.D.OutputFolder) c.args.input.now.names.store.now c.end_step.new.folder (b.kept ∷ (g.M.PassMachine.state c.args.machine.now).files)
     (g.O.Sink.held c.end_step.new.out) (g.O.Sink.faults c.end_step.new.out))) (sym p.2)
     (c.in_err-step.ensures.ended c.args.number c.args.recency.now b at))
 
@@ -41,17 +42,17 @@ returns-in_err-next-clause-taken g c =
     let p = err_from_is_err_and c.from_residual-in_err-next.result c.from_residual-in_err-next.ensures.1 in
     λ b at. rw p.1 (pass_broke (IsDrawnBySome g.M.PassMachine) (given_of g.M.PassMachine.drawing c.args.input.now b.known) (c.args.number + 1)
     c.in_ok-step.step b.first c.args.input.now.names.store.now b.kept (g.O.Sink.held c.end_step.new.out) (g.O.Sink.faults c.end_step.new.out)
-    (g.D.Folder.files c.end_step.new.folder) (g.D.Folder.asked c.end_step.new.folder) (g.D.Folder.faults c.end_step.new.folder)
+    (g.D.OutputFolder.files c.end_step.new.folder) (g.D.OutputFolder.asked c.end_step.new.folder) (g.D.OutputFolder.faults c.end_step.new.folder)
     (g.M.PassMachine.state c.args.machine.now) (g.M.PassMachine.state c.draw_next.new.machine) c.args.recency.now c.draw_next.new.recency
     (c.in_ok-step.ensures.ended c.args.number c.args.recency.now b at) c.in_err-next.ensures.more c.in_err-next.ensures.refused p.0 p.2)
 
 pub returns-clause-taken : goal.returns-clause-taken
 returns-clause-taken g c = λ b at.
     let s = c.in_ok-step.ensures.ended c.args.number c.args.recency.now b at in
-    let now = walk_state g.D.Folder c.args.input.now.names.store.now c.end_step.new.folder (b.kept ∷ (g.M.PassMachine.state c.args.machine.now).files)
+    let now = walk_state (folder_of g.D.OutputFolder) c.args.input.now.names.store.now c.end_step.new.folder (b.kept ∷ (g.M.PassMachine.state c.args.machine.now).files)
     (g.O.Sink.held c.end_step.new.out) (g.O.Sink.faults c.end_step.new.out) in
     next_stands (IsDrawnBySome g.M.PassMachine) (given_of g.M.PassMachine.drawing c.args.input.now b.known) b.first (c.args.number + 1)
-    c.in_ok-step.step (λ files. state_by g.D.Folder g.O.Sink c.args.input.now.names.store.now c.end_step.new.folder c.end_step.new.out (b.kept ∷ files))
+    c.in_ok-step.step (λ files. state_by (folder_of g.D.OutputFolder) g.O.Sink c.args.input.now.names.store.now c.end_step.new.folder c.end_step.new.out (b.kept ∷ files))
     (g.M.PassMachine.state c.args.machine.now) (g.M.PassMachine.state c.draw_next.new.machine) c.args.recency.now c.draw_next.new.recency s
     c.in_ok-next.next (c.in_ok-next.ensures.next b.known s.run
     (may_turn (IsDrawnBySome g.M.PassMachine) (given_of g.M.PassMachine.drawing c.args.input.now b.known) b.first (c.args.number + 1)

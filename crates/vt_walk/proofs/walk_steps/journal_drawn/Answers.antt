@@ -33,9 +33,9 @@ returns-in_err-journal_pass-clause-journaled g c =
     let p = err_from_is_err_and c.from_residual.result c.from_residual.ensures.1 in
     λ t number b s. rw p.1 (text_broke (IsDrawnBySome g.M.PassMachine)
     (given_of g.M.PassMachine.drawing c.args.input.now b.known) number s.step b.first
-    c.args.input.now.names.store.now b.kept t.held t.out_faults (g.D.Folder.files c.args.folder.now) (g.D.Folder.asked c.args.folder.now)
-    (g.D.Folder.faults c.args.folder.now) s.before t.machine s.recency t.recency
-    (g.D.Folder.files c.journal_pass.new.folder) (g.D.Folder.asked c.journal_pass.new.folder) (g.D.Folder.faults c.journal_pass.new.folder)
+    c.args.input.now.names.store.now b.kept t.held t.out_faults (g.D.OutputFolder.files c.args.folder.now) (g.D.OutputFolder.asked c.args.folder.now)
+    (g.D.OutputFolder.faults c.args.folder.now) s.before t.machine s.recency t.recency
+    (g.D.OutputFolder.files c.journal_pass.new.folder) (g.D.OutputFolder.asked c.journal_pass.new.folder) (g.D.OutputFolder.faults c.journal_pass.new.folder)
     c.args.drawn _ p.0 s.stands s.has_drawn
     c.in_err-journal_pass.ensures.part c.in_err-journal_pass.ensures.asked c.in_err-journal_pass.ensures.faults
     (λ is. c.in_err-journal_pass.ensures.failed (ap Err is)) p.2)
@@ -43,9 +43,9 @@ returns-in_err-journal_pass-clause-journaled g c =
 pub returns-clause-journaled : goal.returns-clause-journaled
 returns-clause-journaled g c = λ t number b s. pass_made (IsDrawnBySome g.M.PassMachine)
     (given_of g.M.PassMachine.drawing c.args.input.now b.known) number s.step b.first
-    c.args.input.now.names.store.now b.kept t.held t.out_faults (g.D.Folder.files c.args.folder.now) (g.D.Folder.asked c.args.folder.now)
-    (g.D.Folder.faults c.args.folder.now) s.before t.machine s.recency t.recency
-    (g.D.Folder.files c.journal_pass.new.folder) (g.D.Folder.asked c.journal_pass.new.folder) (g.D.Folder.faults c.journal_pass.new.folder)
+    c.args.input.now.names.store.now b.kept t.held t.out_faults (g.D.OutputFolder.files c.args.folder.now) (g.D.OutputFolder.asked c.args.folder.now)
+    (g.D.OutputFolder.faults c.args.folder.now) s.before t.machine s.recency t.recency
+    (g.D.OutputFolder.files c.journal_pass.new.folder) (g.D.OutputFolder.asked c.journal_pass.new.folder) (g.D.OutputFolder.faults c.journal_pass.new.folder)
     c.args.drawn s.stands s.has_drawn
     c.in_ok-journal_pass.ensures.whole c.in_ok-journal_pass.ensures.there c.in_ok-journal_pass.ensures.asked c.in_ok-journal_pass.ensures.faults
 

@@ -5,6 +5,7 @@ use Rattle.vt_walk.specs.WalkInputs.{given_of}
 use Rattle.vt_walk.specs.WalkSteps.{LeftByRefusal}
 use Rattle.vt_walk.specs.DrawnBy.{IsDrawnBySome}
 use Rattle.vt_walk.proofs.Rounds.{last_done, last_broke}
+use Rattle.vt_walk.specs.OutputFolders.{folder_of}
 use Rattle.vt_walk.proofs.walk_steps.walk_on.Goals as goal
 
 pub returns-in_err-took-clause-walked : goal.returns-in_err-took-clause-walked
@@ -12,7 +13,7 @@ returns-in_err-took-clause-walked g c =
     let p = err_from_is_err_and c.from_residual.result c.from_residual.ensures.1 in
     λ b at. rw p.1 (subst (LeftByRefusal (IsDrawnBySome g.M.PassMachine)
     (given_of g.M.PassMachine.drawing c.args.input.now b.known) b.first
-    (walk_state g.D.Folder c.args.input.now.names.store.now c.take_steps.new.folder
+    (walk_state (folder_of g.D.OutputFolder) c.args.input.now.names.store.now c.take_steps.new.folder
     (b.kept ∷ (g.M.PassMachine.state c.take_steps.new.machine).files) (g.O.Sink.held c.take_steps.new.out)
     (g.O.Sink.faults c.take_steps.new.out))) (sym p.2) (c.in_err-took.ensures.walked b at))
 
@@ -21,7 +22,7 @@ returns-in_err-put_end_line-clause-walked g c =
     let p = err_from_is_err_and c.from_residual-in_err-put_end_line.result c.from_residual-in_err-put_end_line.ensures.1 in
     λ b at. rw p.1 (last_broke (IsDrawnBySome g.M.PassMachine)
     (given_of g.M.PassMachine.drawing c.args.input.now b.known) b.first
-    (walk_state g.D.Folder c.args.input.now.names.store.now c.take_steps.new.folder
+    (walk_state (folder_of g.D.OutputFolder) c.args.input.now.names.store.now c.take_steps.new.folder
     (b.kept ∷ (g.M.PassMachine.state c.take_steps.new.machine).files) (g.O.Sink.held c.take_steps.new.out) (g.O.Sink.faults c.take_steps.new.out))
     c.in_ok-took.took.reads c.pictures.result
     (g.O.Sink.held c.put_end_line.new.out) (g.O.Sink.faults c.put_end_line.new.out) _ p.0 (c.in_ok-took.ensures.walked b at) c.pictures.ensures.value
@@ -30,7 +31,7 @@ returns-in_err-put_end_line-clause-walked g c =
 pub returns-clause-walked : goal.returns-clause-walked
 returns-clause-walked g c = λ b at. last_done (IsDrawnBySome g.M.PassMachine)
     (given_of g.M.PassMachine.drawing c.args.input.now b.known) b.first
-    (walk_state g.D.Folder c.args.input.now.names.store.now c.take_steps.new.folder (b.kept ∷ (g.M.PassMachine.state c.take_steps.new.machine).files)
+    (walk_state (folder_of g.D.OutputFolder) c.args.input.now.names.store.now c.take_steps.new.folder (b.kept ∷ (g.M.PassMachine.state c.take_steps.new.machine).files)
     (g.O.Sink.held c.take_steps.new.out) (g.O.Sink.faults c.take_steps.new.out)) c.in_ok-took.took.reads c.pictures.result
     (g.O.Sink.held c.put_end_line.new.out) (g.O.Sink.faults c.put_end_line.new.out) (c.in_ok-took.ensures.walked b at) c.pictures.ensures.value
     c.in_ok-put_end_line.ensures.whole
