@@ -20,23 +20,24 @@ use vt_walk_decisions::{
     run_with_crew,
 };
 
-// The passes of a walk that has begun, with all that they use.
+// The passes of a walk that has begun, with all that they use. Each `&mut` has a lifetime of its own, without which the check does not cover the
+// function that lends them.
 #[derive(Drop)]
-struct WalkErrand<'w, 'a, M, D, O, G> {
+struct WalkErrand<'w, 'd, 'm, 'r, 'o, M, D, O, G> {
     alloc: Global,
-    folder: &'a mut D,
-    machine: &'a mut M,
-    recency: &'a mut Recency,
+    folder: &'d mut D,
+    machine: &'m mut M,
+    recency: &'r mut Recency,
     input: WalkInput<'w>,
-    out: &'a mut O,
+    out: &'o mut O,
     gate: &'w G,
     // What the walk has answered, and before it a refusal.
     walked: Result<Walked, WalkError>,
 }
 
-impl<'w, 'a, M: PassMachine, D: OutputFolder, O: Sink, G: Gate> Errand<
+impl<'w, 'd, 'm, 'r, 'o, M: PassMachine, D: OutputFolder, O: Sink, G: Gate> Errand<
     LentWorker<'w, M::Shared, M::Loader, M::Sampler, G>,
-> for WalkErrand<'w, 'a, M, D, O, G> {
+> for WalkErrand<'w, 'd, 'm, 'r, 'o, M, D, O, G> {
     ghost use Rattle.vt_walk.specs.OutputFolders.{folder_of};
     ghost use Rattle.vt_walk.specs.Moments.{moment};
     ghost use Rattle.vt_walk.specs.Goings.{walk_by};

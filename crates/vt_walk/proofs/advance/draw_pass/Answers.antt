@@ -8,18 +8,18 @@ use Rattle.vt_walk.proofs.Advancing.{may_prepare, is_job, read_at_most, read_bro
 use Rattle.vt_walk.proofs.advance.draw_pass.Goals as goal
 
 pub run_pass-requires-clause-may : goal.run_pass-requires-clause-may
-run_pass-requires-clause-may g c κs within = may_prepare g.M.PassMachine.drawing
+run_pass-requires-clause-may g c = may_prepare g.M.PassMachine.drawing
     c.args.input.now c.requires.may.0
     c.requires.may.1 c.args.number c.args.step (g.M.PassMachine.state c.args.machine.now) c.args.recency.now c.requires.input c.ranges.number.fits
     c.requires.may.2
 
 pub run_pass-requires-clause-job : goal.run_pass-requires-clause-job
-run_pass-requires-clause-job g c κs within = is_job g.M.PassMachine.drawing
+run_pass-requires-clause-job g c = is_job g.M.PassMachine.drawing
     c.args.input.now c.requires.may.0
     c.requires.may.1 c.args.number c.args.step (g.M.PassMachine.state c.args.machine.now) c.args.recency.now c.requires.may.2
 
 pub plan_on-requires-clause-ran : goal.plan_on-requires-clause-ran
-plan_on-requires-clause-ran g c κs within = (
+plan_on-requires-clause-ran g c = (
   record { known = c.requires.may.0; run = c.requires.may.1; machine = g.M.PassMachine.state c.args.machine.now },
   record {
     may = c.requires.may.2;

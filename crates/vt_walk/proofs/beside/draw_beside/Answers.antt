@@ -13,11 +13,11 @@ use Rattle.vt_walk.specs.OutputFolders.{folder_of}
 use Rattle.vt_walk.proofs.beside.draw_beside.Goals as goal
 
 pub make_picture-requires-clause-few : goal.make_picture-requires-clause-few
-make_picture-requires-clause-few g c κs within =
+make_picture-requires-clause-few g c =
     let i = c.requires.stands.1.passed.inside in let e = c.requires.stands.1.passed.picture in let few = c.requires.input.pictures in omega (arith, i, e, few)
 
 pub plan_on-requires-clause-ran : goal.plan_on-requires-clause-ran
-plan_on-requires-clause-ran g c κs within =
+plan_on-requires-clause-ran g c =
     let b = c.requires.stands.0 in
     let s = ran_as (IsDrawnBySome g.M.PassMachine) (given_of g.M.PassMachine.drawing c.args.input.now b.known) (c.args.number + 1) (next_step c.args.passed) c.step_after-step.result
     (length (g.M.PassMachine.state c.args.machine.now).journal) c.version-start.result c.in_ok-report.report b.first
@@ -32,7 +32,7 @@ pub returns-in_err-name-clause-taken : goal.returns-in_err-name-clause-taken
 returns-in_err-name-clause-taken g c =
     let p = err_from_is_err_and c.from_residual.result c.from_residual.ensures.1 in
     λ b at. rw p.1 (left_after g.M.PassMachine.drawing (IsDrawnBySome g.M.PassMachine)
-    (g.met.M.PassMachine g.world.𝓛 g.world.𝓜 g.world.𝓡 ((λ s x. x), (λ x. x), (λ x. x), λ x. x)).shows_whole
+    g.met.M.PassMachine.shows_whole
     c.args.input.now b.known c.args.number c.args.passed b.first
     (g.M.PassMachine.state c.args.machine.now) c.args.recency.now c.requires.input
     (walk_state (folder_of g.D.OutputFolder) c.args.input.now.names.store.now c.args.folder.now (b.kept ∷ (g.M.PassMachine.state c.args.machine.now).files)
@@ -84,5 +84,5 @@ pub returns-clause-kept : goal.returns-clause-kept
 returns-clause-kept g c = c.write_beside.ensures.kept
 
 pub write_beside-requires-clause-stands : goal.write_beside-requires-clause-stands
-write_beside-requires-clause-stands g c κs within =
+write_beside-requires-clause-stands g c =
     (c.args.number, c.args.recency.now, c.requires.stands.0, c.requires.few, c.requires.stands.1)

@@ -13,20 +13,20 @@ use Rattle.vt_walk.specs.OutputFolders.{folder_of}
 use Rattle.vt_walk.proofs.beside.write_beside.Goals as goal
 
 pub run_and_write-ran-requires-clause-may : goal.run_and_write-ran-requires-clause-may
-run_and_write-ran-requires-clause-may g c κs within =
+run_and_write-ran-requires-clause-may g c =
     let b = c.requires.stands.2 in
     may_prepare_next g.M.PassMachine.drawing (IsDrawnBySome g.M.PassMachine)
-    (g.met.M.PassMachine g.world.𝓛 g.world.𝓜 g.world.𝓡 ((λ s x. x), (λ x. x), (λ x. x), λ x. x)).shows_whole
+    g.met.M.PassMachine.shows_whole
     c.args.input.now b.known c.requires.stands.0 c.args.passed.now b.first
     (g.M.PassMachine.state c.args.machine.now) c.requires.stands.1 c.requires.input c.requires.goes_on c.requires.followed
     (walk_state (folder_of g.D.OutputFolder) c.args.input.now.names.store.now c.args.folder.now (b.kept ∷ (g.M.PassMachine.state c.args.machine.now).files)
     (g.O.Sink.held c.args.out.now) (g.O.Sink.faults c.args.out.now)) c.requires.stands.4 c.requires.stands.3
 
 pub run_and_write-ran-requires-clause-job : goal.run_and_write-ran-requires-clause-job
-run_and_write-ran-requires-clause-job g c κs within =
+run_and_write-ran-requires-clause-job g c =
     let b = c.requires.stands.2 in
     is_next_job g.M.PassMachine.drawing (IsDrawnBySome g.M.PassMachine)
-    (g.met.M.PassMachine g.world.𝓛 g.world.𝓜 g.world.𝓡 ((λ s x. x), (λ x. x), (λ x. x), λ x. x)).shows_whole
+    g.met.M.PassMachine.shows_whole
     c.args.input.now b.known c.requires.stands.0 c.args.passed.now b.first
     (g.M.PassMachine.state c.args.machine.now) c.requires.stands.1 c.requires.input c.requires.goes_on c.requires.followed
     (walk_state (folder_of g.D.OutputFolder) c.args.input.now.names.store.now c.args.folder.now (b.kept ∷ (g.M.PassMachine.state c.args.machine.now).files)
@@ -36,7 +36,7 @@ pub returns-in_err-written-clause-ran : goal.returns-in_err-written-clause-ran
 returns-in_err-written-clause-ran g c =
     let p = err_from_is_err_and c.from_residual.result c.from_residual.ensures.1 in
     λ number v b at. rw p.1 (picture_left g.M.PassMachine.drawing (IsDrawnBySome g.M.PassMachine)
-    (g.met.M.PassMachine g.world.𝓛 g.world.𝓜 g.world.𝓡 ((λ s x. x), (λ x. x), (λ x. x), λ x. x)).shows_whole
+    g.met.M.PassMachine.shows_whole
     c.args.input.now b.known number c.args.passed.now b.first
     (g.M.PassMachine.state c.args.machine.now) v c.requires.input c.requires.goes_on c.requires.followed
     (folder_of g.D.OutputFolder) c.args.input.now.names.store.now b.kept (g.O.Sink.held c.args.out.now) (g.O.Sink.faults c.args.out.now) c.args.folder.now
@@ -48,7 +48,7 @@ pub returns-in_err-put_picture_line-clause-ran : goal.returns-in_err-put_picture
 returns-in_err-put_picture_line-clause-ran g c =
     let p = err_from_is_err_and c.from_residual-in_err-put_picture_line.result c.from_residual-in_err-put_picture_line.ensures.1 in
     λ number v b at. rw p.1 (line_left g.M.PassMachine.drawing (IsDrawnBySome g.M.PassMachine)
-    (g.met.M.PassMachine g.world.𝓛 g.world.𝓜 g.world.𝓡 ((λ s x. x), (λ x. x), (λ x. x), λ x. x)).shows_whole
+    g.met.M.PassMachine.shows_whole
     c.args.input.now b.known number c.args.passed.now b.first
     (g.M.PassMachine.state c.args.machine.now) v c.requires.input c.requires.goes_on c.requires.followed
     (folder_of g.D.OutputFolder) c.args.input.now.names.store.now b.kept (g.O.Sink.held c.args.out.now) (g.O.Sink.faults c.args.out.now) c.args.folder.now
@@ -62,7 +62,7 @@ pub returns-in_err-report-clause-ran : goal.returns-in_err-report-clause-ran
 returns-in_err-report-clause-ran g c =
     let p = err_from_is_err_and c.from_residual-in_err-report.result c.from_residual-in_err-report.ensures.1 in
     λ number v b at. rw p.1 (pass_left g.M.PassMachine.drawing (IsDrawnBySome g.M.PassMachine)
-    (g.met.M.PassMachine g.world.𝓛 g.world.𝓜 g.world.𝓡 ((λ s x. x), (λ x. x), (λ x. x), λ x. x)).shows_whole
+    g.met.M.PassMachine.shows_whole
     c.args.input.now b.known number c.args.passed.now b.first
     (g.M.PassMachine.state c.args.machine.now) v c.requires.input c.requires.goes_on c.requires.followed
     (folder_of g.D.OutputFolder) c.args.input.now.names.store.now b.kept (g.O.Sink.held c.args.out.now) (g.O.Sink.faults c.args.out.now) c.args.folder.now
@@ -81,7 +81,7 @@ returns-clause-ran g c =
     (record { scene = input_scene c.args.input.now; picture = c.args.passed.now.picture + 1; batch = c.args.passed.now.next_plan.plan.elements })
     r (g.M.PassMachine.state c.args.machine.now) (g.M.PassMachine.state c.run_and_write-ran.new.machine)) c.in_ok-report.was c.run_and_write-ran.ensures.ran in
     λ number v b at. pass_ran g.M.PassMachine.drawing (IsDrawnBySome g.M.PassMachine)
-    (g.met.M.PassMachine g.world.𝓛 g.world.𝓜 g.world.𝓡 ((λ s x. x), (λ x. x), (λ x. x), λ x. x)).shows_whole
+    g.met.M.PassMachine.shows_whole
     c.args.input.now b.known number c.args.passed.now b.first
     (g.M.PassMachine.state c.args.machine.now) v c.requires.input c.requires.goes_on c.requires.followed
     (folder_of g.D.OutputFolder) c.args.input.now.names.store.now b.kept (g.O.Sink.held c.args.out.now) (g.O.Sink.faults c.args.out.now) c.args.folder.now

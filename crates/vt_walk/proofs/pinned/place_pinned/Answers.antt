@@ -10,13 +10,13 @@ use Rattle.vt_walk.proofs.Placed.{next_pinned, early_pinned, next_placed, asked_
 use Rattle.vt_walk.proofs.pinned.place_pinned.Goals as goal
 
 pub place_page-requires-clause-next : goal.place_page-requires-clause-next
-place_page-requires-clause-next g c κs within =
+place_page-requires-clause-next g c =
     next_pinned c.args.geometry.now c.args.pinned c.loop-frame.frame c.pinned_page-page.result
     (g.M.PassMachine.state c.args.machine.now) (g.M.PassMachine.state c.loop-frame.machine) c.loop-frame.invariant.state
     (c.pinned_page-page.ensures ∙ ap (λ n. n - c.args.pinned + c.loop-frame.frame) c.page_count-pages.ensures.pages)
 
 pub place_page-requires-clause-early : goal.place_page-requires-clause-early
-place_page-requires-clause-early g c κs within =
+place_page-requires-clause-early g c =
     omega (
       arith,
       early_pinned c.args.geometry.now c.args.pinned c.loop-frame.frame (g.M.PassMachine.state c.args.machine.now)

@@ -26,7 +26,7 @@ returns-then-not-is_finished-clause-ended g c =
     (IsEnd c.args.input.now.mode c.args.passed.loads_nothing c.args.passed.next_plan.plan.elements → ⊥)) c.if-not-is_finished.true c.is_finished.ensures)
 
 pub write_picture-requires-clause-few : goal.write_picture-requires-clause-few
-write_picture-requires-clause-few g c κs within =
+write_picture-requires-clause-few g c =
     let i = c.requires.stands.3.passed.inside in let e = c.requires.stands.3.passed.picture in
     let few = c.requires.input.pictures in omega (arith, i, e, few)
 

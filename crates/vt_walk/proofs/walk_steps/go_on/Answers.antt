@@ -13,11 +13,11 @@ use Rattle.vt_walk.specs.OutputFolders.{folder_of}
 use Rattle.vt_walk.proofs.walk_steps.go_on.Goals as goal
 
 pub draw_beside-requires-clause-followed : goal.draw_beside-requires-clause-followed
-draw_beside-requires-clause-followed g c κs within = subst (λ (b : Bool). MatchBool b (IsFollowed c.args.input.now c.args.passed) (Unit {0}))
+draw_beside-requires-clause-followed g c = subst (λ (b : Bool). MatchBool b (IsFollowed c.args.input.now c.args.passed) (Unit {0}))
     c.if-is_written_beside.true c.is_written_beside.ensures
 
 pub draw_next-requires-clause-may : goal.draw_next-requires-clause-may
-draw_next-requires-clause-may g c κs within =
+draw_next-requires-clause-may g c =
     let b = c.requires.stands.0 in
     let s = c.in_ok-step.ensures.ended c.args.number c.args.recency.now b c.requires.stands.1 in (
       b.known,
@@ -78,4 +78,4 @@ returns-clause-kept g c = record {
 }
 
 pub end_step-requires-clause-stands : goal.end_step-requires-clause-stands
-end_step-requires-clause-stands g c κs within = (c.args.number, c.args.recency.now, c.requires.stands.0, c.requires.stands.1)
+end_step-requires-clause-stands g c = (c.args.number, c.args.recency.now, c.requires.stands.0, c.requires.stands.1)

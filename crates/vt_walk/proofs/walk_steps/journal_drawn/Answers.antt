@@ -7,7 +7,7 @@ use Rattle.vt_walk.proofs.Passing.{may_draw, pass_made, text_broke}
 use Rattle.vt_walk.proofs.walk_steps.journal_drawn.Goals as goal
 
 pub journal_pass-requires-clause-pages : goal.journal_pass-requires-clause-pages
-journal_pass-requires-clause-pages g c κs within =
+journal_pass-requires-clause-pages g c =
     let t = c.requires.stands.0 in
     let number = c.requires.stands.1 in
     let b = c.requires.stands.2 in
@@ -18,7 +18,7 @@ journal_pass-requires-clause-pages g c κs within =
     s.before s.recency s.stands s.more) s.has_drawn
 
 pub journal_pass-requires-clause-room : goal.journal_pass-requires-clause-room
-journal_pass-requires-clause-room g c κs within =
+journal_pass-requires-clause-room g c =
     let t = c.requires.stands.0 in
     let number = c.requires.stands.1 in
     let b = c.requires.stands.2 in

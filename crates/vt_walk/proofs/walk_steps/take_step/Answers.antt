@@ -9,7 +9,7 @@ use Rattle.vt_walk.specs.OutputFolders.{folder_of}
 use Rattle.vt_walk.proofs.walk_steps.take_step.Goals as goal
 
 pub journal_drawn-requires-clause-stands : goal.journal_drawn-requires-clause-stands
-journal_drawn-requires-clause-stands g c κs within = (
+journal_drawn-requires-clause-stands g c = (
   (moment (folder_of g.D.OutputFolder) g.O.Sink c.args.folder.now c.args.out.now (g.M.PassMachine.state c.args.machine.now) c.args.recency.now),
   c.args.number,
   c.requires.stands.0,
@@ -32,12 +32,12 @@ returns-in_err-judge-clause-taken g c =
     let after = at_folder (folder_of g.D.OutputFolder) c.journal_drawn.new.folder now in
     λ b at. rw p.1 (subst (IsLeft w b after) (sym p.2)
     (stopped g.M.PassMachine.drawing (IsDrawnBySome g.M.PassMachine)
-    (g.met.M.PassMachine g.world.𝓛 g.world.𝓜 g.world.𝓡 ((λ s x. x), (λ x. x), (λ x. x), λ x. x)).shows_whole c.args.input.now b.known c.args.number
+    g.met.M.PassMachine.shows_whole c.args.input.now b.known c.args.number
     c.in_ok-passed.passed b.first (state_in w b after after.machine.files) after.machine c.args.recency.now c.requires.input
     (c.in_ok-passed.ensures.journaled now c.args.number b at) _ c.in_err-judge.ensures))
 
 pub go_on-requires-clause-stands : goal.go_on-requires-clause-stands
-go_on-requires-clause-stands g c κs within =
+go_on-requires-clause-stands g c =
     let now = moment (folder_of g.D.OutputFolder) g.O.Sink c.args.folder.now c.args.out.now (g.M.PassMachine.state c.args.machine.now) c.args.recency.now in
     (c.requires.stands.0, c.in_ok-passed.ensures.journaled now c.args.number c.requires.stands.0 c.requires.stands.1)
 

@@ -15,7 +15,7 @@ use Rattle.vt_walk.specs.OutputFolders.{folder_of}
 use Rattle.vt_walk.proofs.walk_steps.take_steps.Goals as goal
 
 pub draw_next-requires-clause-may : goal.draw_next-requires-clause-may
-draw_next-requires-clause-may g c κs within =
+draw_next-requires-clause-may g c =
     let b = c.requires.stands.0 in
     let s = first_at (IsDrawnBySome g.M.PassMachine) (given_of g.M.PassMachine.drawing c.args.input.now b.known) b.first
     (walk_state (folder_of g.D.OutputFolder) c.args.input.now.names.store.now c.args.folder.now (b.kept ∷ (g.M.PassMachine.state c.args.machine.now).files)
@@ -81,7 +81,7 @@ loop-number-init g c =
     }
 
 pub take_step-requires-clause-stands : goal.take_step-requires-clause-stands
-take_step-requires-clause-stands g c κs within =
+take_step-requires-clause-stands g c =
     let s = c.loop-number.invariant.some in
     let b = s.0 in (
       b,
