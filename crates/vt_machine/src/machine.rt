@@ -47,7 +47,7 @@ use vt_tiles::Stores;
 /// into queues that are new and have room for it.
 pub trait PassMachine: Sized {
     /// What the loaders read.
-    type File: File + Send;
+    type File: File;
 
     /// What the workers of a pass share.
     type Shared: Drop;
