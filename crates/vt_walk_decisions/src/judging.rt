@@ -54,12 +54,12 @@ pub fn is_finished(mode: Mode, loads_nothing: bool, plan: &Batch) -> bool
     mode == Mode::Live || (loads_nothing && plan.len() == 0)
 }
 
-// The least number of pixels of a picture that is written while the next one is drawn. Creating and writing a file of so many (180 kB) takes
-// some 70 microseconds, and a join of two closures 40 to 60: smaller pictures do not win it back. What a walk writes does not depend on it.
-const LEAST_BESIDE: u32 = 60_000;
+// The least number of pixels of a picture that is written while the next one is drawn. To draw so many takes some 20 microseconds, and as long takes
+// their file; a job for a hand costs 10, so smaller pictures do not win it back. What a walk writes does not depend on it.
+const LEAST_BESIDE: u32 = 4_096;
 
 /// Whether a picture is written while the next one's first pass is drawn: the pass has finished it, there is a next one, and it is large
-/// enough to be worth a thread.
+/// enough to be worth a hand.
 pub fn is_written_beside(input: &WalkInput<'_>, passed: &Passed) -> bool
     ensures { MatchBool result (IsFollowed input.now passed.now) (Unit {0}) }
 {
