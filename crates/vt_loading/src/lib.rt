@@ -7,4 +7,4 @@ mod round;
 
 pub use pool::LoaderPool;
 pub use round::{blank_report, new_queues};
-pub use vt_requests::{Batch, Crew, PassMachine, PassReport, Planned, Task, work_together};
+pub use vt_requests::{Batch, Crew, PassMachine, PassReport, Planned, SentMachine, work_together};

@@ -4,6 +4,6 @@
 mod table;
 
 pub use table::PageTable;
-pub use vt_machine::{FeedbackCounts, Losses, Planned, Task};
+pub use vt_machine::{FeedbackCounts, HandTask, Losses, Planned, Task};
 pub use vt_pictures::{Filter, Path, Shot};
 pub use vt_tiles::{Geometry, tile_length};

@@ -3,6 +3,7 @@ use Rattle.std.proofs.Common.{◌≡◌, ℕ, ◌≤◌, Option, None, Some, Lis
 use Rattle.std.specs.Prelude.{slice_get, slice_index_or, Contains}
 use Rattle.std.proofs.lemmas.List.{append_cancel_right}
 use Rattle.std.proofs.lemmas.List.Elements.{Contains-append_left}
+use Rattle.std.specs.Arc.{arc_value}
 use Rattle.vt_pass_machine.specs.OutsideTypes.outside.File.{Ghosts as FileMeanings}
 use Rattle.vt_pass_machine.specs.Shots.{shot_row}
 use Rattle.vt_pass_machine.specs.DrawLookups.{Note}
@@ -103,13 +104,13 @@ module _ {S P B O M : Type 0} (filter : FilterMeanings P) (b r : PassPool WordTa
 
 pub words_rows : {F S P B O M : Type 0} (g : FileMeanings F) (schedule : ScheduleMeanings S B O M) (filter : FilterMeanings P)
     (m p : Machine F WordTable S P WordsValue WordReader StreamerView B O M) (batch : List Planned) (job : Job) (lines : List RowLine)
-    → IsReadyBy g word.ghosts schedule m.shared.parts.table m.shared.parts.rows m.shared.parts.queues m.streamer m.streams m.pool batch
+    → IsReadyBy g word.ghosts schedule (arc_value m.shared).parts.table (arc_value m.shared).parts.rows (arc_value m.shared).parts.queues m.streamer m.streams m.pool batch
     → held_by word.ghosts filter m.streamer m.pool.samplers.elements p.streamer p.pool job lines → 1 ≤ length lines
     → OfWriters (λ (v w : StreamerView). AreNewRows filter p.pool.geometry p.pool.depth v.writer w.writer job.scene.path job.picture lines
     (bytes_of p.pool.drawn.elements)) m.streamer p.streamer
 words_rows g schedule filter m p batch job lines ready held some =
     of_held word.ghosts filter m.pool.samplers.elements p.pool job lines
-    (λ o. IsReadyBy g word.ghosts schedule m.shared.parts.table m.shared.parts.rows m.shared.parts.queues o m.streams m.pool batch)
+    (λ o. IsReadyBy g word.ghosts schedule (arc_value m.shared).parts.table (arc_value m.shared).parts.rows (arc_value m.shared).parts.queues o m.streams m.pool batch)
     (λ (v w : StreamerView). AreNewRows filter p.pool.geometry p.pool.depth v.writer w.writer job.scene.path job.picture lines
     (bytes_of p.pool.drawn.elements)) m.streamer p.streamer ready held
     (λ u v is came. new_rows filter m.pool p.pool job lines some u.writer v.writer (λ k a there. (is.samplers.ready k a there).start_is) came)

@@ -1,5 +1,6 @@
 -- A pass over words that are lent: with them a kit is a machine, so that what its workers did is a pass.
 use Rattle.std.proofs.Common.{◌≡◌, Option, None, Some, List, length, Result, Ok, Err, refl, subst}
+use denote.RawPtr.{null_ptr}
 use Rattle.std.specs.Prelude.{IfOk}
 use Rattle.vt_outside.specs.declared.outside.File.{Ghosts as FileMeanings}
 use Rattle.vt_outside.specs.declared.answers.NoMemory.{NoMemory}
@@ -38,7 +39,10 @@ module _ {F P : Type 0} (g : FileMeanings F) (filter : FilterMeanings P) (words 
   -- the machine of a kit with the words and the streamer that it is lent
   abbrev machine : Option WordStreamer → LoaderPoolView F → WordPool → WordMachine F P
   machine t k r = record {
-    shared = record { parts = record { table = words; rows = rows; queues = q; filter = record {} } };
+    shared = record {
+      ptr = null_ptr;
+      value = record { parts = record { table = words; rows = rows; queues = q; filter = record {} } };
+    };
     streamer = t;
     streams = k;
     pool = r;

@@ -14,10 +14,7 @@ use vt_word_table::WordTable;
 /// How the rows of a pass came, if it has any, that was run over shared words after it was prepared: each was drawn at a version that a
 /// pass of its sampler held, which was given at the version at which this pass of the machine began and was taken back in it, and by
 /// notes that came back in it.
-pub fn rows_of_words_were_held<F: File + Send, S: Schedule, P: Filter + Sync>()
-where
-    S::Shared: Sync,
-    S::Own: Send,
+pub fn rows_of_words_were_held<F: File + Send, S: Schedule, P: Filter>()
     ensures { let words = ⟦<Machine<F, WordTable, S, P> as PassMachine>⟧ in
         (m : _) (p : _) (batch : List Planned) (job : Job) (lines : List RowLine) → words.is_ready m batch → words.held m p job lines
         → 1 ≤ length lines → OfWriters (λ v w. AreNewRows P.Filter p.pool.geometry p.pool.depth v.writer w.writer job.scene.path

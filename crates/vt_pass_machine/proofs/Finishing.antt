@@ -24,7 +24,8 @@ use Rattle.vt_load.specs.declared.queued.Queues.{Queues}
 use Rattle.vt_load.specs.QueuedLoaders.{QueuedView}
 use Rattle.vt_loading.specs.Jobs.{Job}
 use Rattle.vt_loading.specs.MachineTypes.crew.PassReport.{PassReport}
-use Rattle.vt_loading.specs.Machines.{files_of, known_bytes}
+use Rattle.vt_loading.specs.Drawings.{Drawing, RowRelation}
+use Rattle.vt_loading.specs.Machines.{MachineState, files_of, known_bytes}
 use Rattle.vt_loading.specs.Outcomes.{IsOutcome}
 use Rattle.vt_loading.specs.RowOrders.{AreRowsInOrder}
 use Rattle.vt_loading.specs.Requests.{AreReadFor}
@@ -319,3 +320,11 @@ module _ {F T S P H R W B O M : Type 0} (g : FileMeanings F) (table : TableMeani
           held came_within later_none report went_on (drawn b may) sound events losses,
         )
         by_result (Err refusal) went_on drawn sound events losses = (record { ran = tt; goes_on = tt; broke = refused }, tt)
+
+-- a pass ended with what its workers share, which has another name
+pub ends_with : {F T S H R W B O M : Type 0} (g : FileMeanings F) (table : TableMeanings T H R W) {x y : H} (same : x ≡ y)
+    (o : Option (PassStreamer T H R W)) (k : LoaderPoolView F) (r : PassPool T S H R W B O M) {draws : Drawing} {drawn : RowRelation} {job : Job}
+    {result : Result PassReport NoMemory} {before after : MachineState}
+    → EndsPassRun draws drawn (IsIdleBy g table x o k r) job result before after → EndsPassRun draws drawn (IsIdleBy g table y o k r) job result before after
+ends_with g table same o k r {draws} {drawn} {job} {result} {before} {after} ends =
+    subst (λ z. EndsPassRun draws drawn (IsIdleBy g table z o k r) job result before after) same ends

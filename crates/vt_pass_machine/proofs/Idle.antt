@@ -2,6 +2,7 @@
 use Rattle.std.proofs.Common.{◌≡◌, ℕ, ◌*◌, ◌<◌, ◌≤◌, List, length, get_or, Option, Some, None, sym, ap, ◌∙◌, subst, arith}
 use Rattle.std.specs.Prelude.{IsSome}
 use Rattle.std.proofs.lemmas.Option.{slice_get-get_or}
+use Rattle.std.specs.Arc.{arc_value}
 use Rattle.vt_pass_pool.specs.Depths.{IsDepth}
 use Rattle.vt_outside.specs.declared.outside.File.{Ghosts as FileMeanings}
 use Rattle.vt_load.specs.Shape.{Shape}
@@ -83,11 +84,11 @@ module _ {F T S H R W B O M : Type 0} (g : FileMeanings F) (table : TableMeaning
 
 module _ {F T S P H R W B O M : Type 0} (g : FileMeanings F) (table : TableMeanings T H R W) (m : Machine F T S P H R W B O M) where
   pub machine_placed : (t u : PassStreamer T H R W) (page frame : ℕ) (tile : List ℕ) → m.streamer ≡ Some t
-      → IsIdleBy g table m.shared.parts.table m.streamer m.streams m.pool → MayPlace (state_of g table m) page frame tile
-      → HasPlaced table m.shared.parts.table page tile t u → IsIdle g table m.shared.parts.table u m.streams m.pool
+      → IsIdleBy g table (arc_value m.shared).parts.table m.streamer m.streams m.pool → MayPlace (state_of g table m) page frame tile
+      → HasPlaced table (arc_value m.shared).parts.table page tile t u → IsIdle g table (arc_value m.shared).parts.table u m.streams m.pool
   machine_placed t u page frame tile there idle may placed =
-      idle_placed g table m.shared.parts.table t u m.streams m.pool page frame tile
-      (subst (λ (x : Option (PassStreamer T H R W)). IsIdleBy g table m.shared.parts.table x m.streams m.pool) there idle)
+      idle_placed g table (arc_value m.shared).parts.table t u m.streams m.pool page frame tile
+      (subst (λ (x : Option (PassStreamer T H R W)). IsIdleBy g table (arc_value m.shared).parts.table x m.streams m.pool) there idle)
       (subst (λ (x : Option (PassStreamer T H R W)).
       MayPlace (state_by g (frames_by table x) (journal_by table x) m.streams m.pool) page frame tile) there may) placed
 
@@ -151,33 +152,33 @@ module _ {F T S H R W B O M : Type 0} (g : FileMeanings F) (table : TableMeaning
 
 module _ {F T S P H R W B O M : Type 0} (g : FileMeanings F) (table : TableMeanings T H R W) (schedule : ScheduleMeanings S B O M)
     (m : Machine F T S P H R W B O M) (t : PassStreamer T H R W) (there : m.streamer ≡ Some t) where
-  ready_with : (batch : List Planned)
-      → IsReadyBy g table schedule m.shared.parts.table m.shared.parts.rows m.shared.parts.queues m.streamer m.streams m.pool batch
-      → IsReady g table schedule m.shared.parts.table m.shared.parts.rows m.shared.parts.queues t m.streams m.pool batch
+  pub ready_with : (batch : List Planned)
+      → IsReadyBy g table schedule (arc_value m.shared).parts.table (arc_value m.shared).parts.rows (arc_value m.shared).parts.queues m.streamer m.streams m.pool batch
+      → IsReady g table schedule (arc_value m.shared).parts.table (arc_value m.shared).parts.rows (arc_value m.shared).parts.queues t m.streams m.pool batch
   ready_with batch ready = subst (λ (x : Option (PassStreamer T H R W)).
-      IsReadyBy g table schedule m.shared.parts.table m.shared.parts.rows m.shared.parts.queues x m.streams m.pool batch) there ready
+      IsReadyBy g table schedule (arc_value m.shared).parts.table (arc_value m.shared).parts.rows (arc_value m.shared).parts.queues x m.streams m.pool batch) there ready
 
   pub samplers_may : (job : Job) (out : List (PassSampler T S H R W B O M))
-      → IsReadyBy g table schedule m.shared.parts.table m.shared.parts.rows m.shared.parts.queues m.streamer m.streams m.pool job.batch
+      → IsReadyBy g table schedule (arc_value m.shared).parts.table (arc_value m.shared).parts.rows (arc_value m.shared).parts.queues m.streamer m.streams m.pool job.batch
       → IsJobFor (state_of g table m).setup job → out ≡ m.pool.samplers.elements
-      → AllReady (MayDraw table schedule m.shared.parts.table m.shared.parts.rows job.scene.shape job.scene.depth job.scene.path job.picture) out
+      → AllReady (MayDraw table schedule (arc_value m.shared).parts.table (arc_value m.shared).parts.rows job.scene.shape job.scene.depth job.scene.path job.picture) out
   samplers_may job out ready job_is same =
-      subst (AllReady (MayDraw table schedule m.shared.parts.table m.shared.parts.rows job.scene.shape job.scene.depth job.scene.path job.picture)) (sym same)
-      (may_draw g table schedule m.shared.parts.table m.shared.parts.rows m.shared.parts.queues t m.streams m.pool job (frames_by table m.streamer)
+      subst (AllReady (MayDraw table schedule (arc_value m.shared).parts.table (arc_value m.shared).parts.rows job.scene.shape job.scene.depth job.scene.path job.picture)) (sym same)
+      (may_draw g table schedule (arc_value m.shared).parts.table (arc_value m.shared).parts.rows (arc_value m.shared).parts.queues t m.streams m.pool job (frames_by table m.streamer)
       (ready_with job.batch ready) job_is)
 
   pub streamer_may : (u : PassStreamer T H R W) (batch : List Planned)
-      → IsReadyBy g table schedule m.shared.parts.table m.shared.parts.rows m.shared.parts.queues m.streamer m.streams m.pool batch
-      → u ≡ record t { answers = u.answers } → IsPassOfQueue m.shared.parts.queues.results u.answers
-      → MayStream table m.shared.parts.table m.shared.parts.queues batch u
+      → IsReadyBy g table schedule (arc_value m.shared).parts.table (arc_value m.shared).parts.rows (arc_value m.shared).parts.queues m.streamer m.streams m.pool batch
+      → u ≡ record t { answers = u.answers } → IsPassOfQueue (arc_value m.shared).parts.queues.results u.answers
+      → MayStream table (arc_value m.shared).parts.table (arc_value m.shared).parts.queues batch u
   streamer_may u batch ready own of =
-      may_stream g table schedule m.shared.parts.table m.shared.parts.rows m.shared.parts.queues t m.streams m.pool u batch (ready_with batch ready) own of
+      may_stream g table schedule (arc_value m.shared).parts.table (arc_value m.shared).parts.rows (arc_value m.shared).parts.queues t m.streams m.pool u batch (ready_with batch ready) own of
 
 -- what a machine may be asked between its passes, said of its streamer
 module _ {F T S P H R W B O M : Type 0} (g : FileMeanings F) (table : TableMeanings T H R W) (m : Machine F T S P H R W B O M) (t : PassStreamer T H R W)
-    (there : m.streamer ≡ Some t) (was : IsIdleBy g table m.shared.parts.table m.streamer m.streams m.pool) where
-  pub idle_with : IsIdle g table m.shared.parts.table t m.streams m.pool
-  idle_with = subst (λ (x : Option (PassStreamer T H R W)). IsIdleBy g table m.shared.parts.table x m.streams m.pool) there was
+    (there : m.streamer ≡ Some t) (was : IsIdleBy g table (arc_value m.shared).parts.table m.streamer m.streams m.pool) where
+  pub idle_with : IsIdle g table (arc_value m.shared).parts.table t m.streams m.pool
+  idle_with = subst (λ (x : Option (PassStreamer T H R W)). IsIdleBy g table (arc_value m.shared).parts.table x m.streams m.pool) there was
 
   pub record CanPlace (page frame : ℕ) (tile : List ℕ) : Type 0 where
     pub page_inside : page < pages_of (table.shape t.writer)

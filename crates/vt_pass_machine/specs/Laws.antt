@@ -1,6 +1,7 @@
 -- What the workers of a machine did is a pass, once they are moved back.
 use Rattle.std.specs.Prelude.{◌≡◌, ℕ, Option, List, length, reverse, Result, Ok, Err, OnErr, IfOk}
 use Rattle.std.proofs.Common.{subst, sym, ap, ◌∙◌}
+use Rattle.std.specs.Arc.{arc_value}
 use Rattle.vt_outside.specs.declared.outside.File.{Ghosts as FileMeanings}
 use Rattle.vt_outside.specs.declared.answers.NoMemory.{NoMemory}
 use Rattle.vt_load.specs.StoreViews.{StoreView}
@@ -122,25 +123,25 @@ module _ {F T S P H R W B O M : Type 0} (g : FileMeanings F) (table : TableMeani
 module _ {F T S P H R W B O M : Type 0} (g : FileMeanings F) (table : TableMeanings T H R W) (schedule : ScheduleMeanings S B O M)
     (filter : FilterMeanings P) (job : Job) (m n : Machine F T S P H R W B O M) (a c : List (QueuedView F)) (e f : List (PassSampler T S H R W B O M))
     (b d : PassStreamer T H R W)
-    (ready : IsReadyBy g table schedule m.shared.parts.table m.shared.parts.rows m.shared.parts.queues m.streamer m.streams m.pool job.batch)
+    (ready : IsReadyBy g table schedule (arc_value m.shared).parts.table (arc_value m.shared).parts.rows (arc_value m.shared).parts.queues m.streamer m.streams m.pool job.batch)
     (job_is : IsJobFor (state_of g table m).setup job) (detached : IsDetached g m n a e b) (number : length c ≡ length a) (number_f : length f ≡ length e)
-    (did_load : AllDid (HasLoaded g n.shared.parts.queues) a c)
-    (did_draw : AllDid (HasDrawn table schedule filter n.shared.parts.table n.shared.parts.rows job.scene.shape job.scene.depth job.scene.path job.picture
+    (did_load : AllDid (HasLoaded g (arc_value n.shared).parts.queues) a c)
+    (did_draw : AllDid (HasDrawn table schedule filter (arc_value n.shared).parts.table (arc_value n.shared).parts.rows job.scene.shape job.scene.depth job.scene.path job.picture
     job.scene.path.height (row_length job.scene.depth job.scene.path.width)) e f)
-    (did_stream : HasStreamed table n.shared.parts.table n.shared.parts.queues job.batch b d) where
-  was_ready : IsReady g table schedule m.shared.parts.table m.shared.parts.rows m.shared.parts.queues detached.was m.streams m.pool job.batch
+    (did_stream : HasStreamed table (arc_value n.shared).parts.table (arc_value n.shared).parts.queues job.batch b d) where
+  was_ready : IsReady g table schedule (arc_value m.shared).parts.table (arc_value m.shared).parts.rows (arc_value m.shared).parts.queues detached.was m.streams m.pool job.batch
   was_ready = subst (λ (x : Option (PassStreamer T H R W)).
-      IsReadyBy g table schedule m.shared.parts.table m.shared.parts.rows m.shared.parts.queues x m.streams m.pool job.batch) detached.there ready
+      IsReadyBy g table schedule (arc_value m.shared).parts.table (arc_value m.shared).parts.rows (arc_value m.shared).parts.queues x m.streams m.pool job.batch) detached.there ready
 
-  has_loaded : AllDid (HasLoaded g m.shared.parts.queues) a c
+  has_loaded : AllDid (HasLoaded g (arc_value m.shared).parts.queues) a c
   has_loaded = subst (λ (x : PassShared (OwnParts T S P H R W B O M)). AllDid (HasLoaded g x.parts.queues) a c) detached.shared did_load
 
-  have_drawn : AllDid (HasDrawn table schedule filter m.shared.parts.table m.shared.parts.rows job.scene.shape job.scene.depth job.scene.path job.picture
+  have_drawn : AllDid (HasDrawn table schedule filter (arc_value m.shared).parts.table (arc_value m.shared).parts.rows job.scene.shape job.scene.depth job.scene.path job.picture
       job.scene.path.height (row_length job.scene.depth job.scene.path.width)) e f
   have_drawn = subst (λ (x : PassShared (OwnParts T S P H R W B O M)). AllDid (HasDrawn table schedule filter x.parts.table x.parts.rows job.scene.shape job.scene.depth
       job.scene.path job.picture job.scene.path.height (row_length job.scene.depth job.scene.path.width)) e f) detached.shared did_draw
 
-  has_fed : HasStreamed table m.shared.parts.table m.shared.parts.queues job.batch b d
+  has_fed : HasStreamed table (arc_value m.shared).parts.table (arc_value m.shared).parts.queues job.batch b d
   has_fed = subst (λ (x : PassShared (OwnParts T S P H R W B O M)). HasStreamed table x.parts.table x.parts.queues job.batch b d) detached.shared did_stream
 
   -- how the work began
@@ -152,16 +153,16 @@ module _ {F T S P H R W B O M : Type 0} (g : FileMeanings F) (table : TableMeani
   }
 
   -- it leaves what may be moved back
-  may_finish : MayFinish g table schedule filter n.shared.parts.table n.shared.parts.rows n.shared.parts.queues n.streams n.pool job c f d z
+  may_finish : MayFinish g table schedule filter (arc_value n.shared).parts.table (arc_value n.shared).parts.rows (arc_value n.shared).parts.queues n.streams n.pool job c f d z
   unfolding z
   may_finish = subst (λ (x : PassShared (OwnParts T S P H R W B O M)). MayFinish g table schedule filter x.parts.table x.parts.rows x.parts.queues n.streams n.pool job c f d z)
       (sym detached.shared) (record {
-        stream = stream_back g m.shared.parts.queues detached.was.answers b.answers d.answers m.streams n.streams job.batch detached.was.report d.report a c
+        stream = stream_back g (arc_value m.shared).parts.queues detached.was.answers b.answers d.answers m.streams n.streams job.batch detached.was.report d.report a c
             detached.loaders_out was_ready.asked number has_loaded has_fed.took has_fed.all has_fed.losses has_fed.answers;
-        fit = fit_back g table m.shared.parts.table m.shared.parts.queues detached.was b m.streams n.streams a detached.loaders_out detached.streamer_is was_ready.fit;
+        fit = fit_back g table (arc_value m.shared).parts.table (arc_value m.shared).parts.queues detached.was b m.streams n.streams a detached.loaders_out detached.streamer_is was_ready.fit;
         no_events = ap (λ (x : PassStreamer T H R W). x.report.events.elements) detached.streamer_is ∙ was_ready.asked.no_events;
         fed = has_fed;
-        draw = draw_back g table schedule filter m.shared.parts.table m.shared.parts.rows m.shared.parts.queues detached.was b m.streams m.pool n.pool job e f
+        draw = draw_back g table schedule filter (arc_value m.shared).parts.table (arc_value m.shared).parts.rows (arc_value m.shared).parts.queues detached.was b m.streams m.pool n.pool job e f
             detached.streamer_is was_ready (frames_by table m.streamer) job_is detached.samplers_are detached.pool number_f have_drawn;
         agree = record {
           shape = ap (λ (x : PassPool T S H R W B O M). x.geometry) detached.pool ∙ was_ready.agree.shape
@@ -207,7 +208,7 @@ module _ {F T S P H R W B O M : Type 0} (g : FileMeanings F) (table : TableMeani
   has_ended p r done = let both = done z may_finish_out in (
     ends_after (drawing_by_turns filter schedule.DEALT) (drawn_by table filter schedule.DEALT p.pool p.streamer) job (state_of g table m)
         (state_by g (table.frame_count b.writer) (table.journal b.writer) (stream_before n.streams z.stream) n.pool) (state_of g table p) before
-        (IsIdleBy g table p.shared.parts.table p.streamer p.streams p.pool) r both.0,
+        (IsIdleBy g table (arc_value p.shared).parts.table p.streamer p.streams p.pool) r both.0,
     subst (λ (x : Option (PassStreamer T H R W)). IfOk r (λ report.
         held_by table filter x m.pool.samplers.elements p.streamer p.pool job report.rows.elements)) (sym detached.there)
         (subst (λ (x : W × List (PassSampler T S H R W B O M)). IfOk r (λ report.

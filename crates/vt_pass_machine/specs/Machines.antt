@@ -1,5 +1,6 @@
 -- The machine.
 use Rattle.std.specs.Prelude.{◌≡◌, ℕ, ◌*◌, Bool, Option, None, Some, List, [], length, slice_get, slice_index_or, Result, IfOk}
+use Rattle.std.specs.Arc.{arc_value}
 use Rattle.vt_outside.specs.declared.outside.File.{Ghosts as FileMeanings}
 use Rattle.vt_outside.specs.declared.answers.NoMemory.{NoMemory}
 use Rattle.vt_load.specs.Shape.{Shape}
@@ -166,12 +167,12 @@ pub record HasPlaced {T H R W : Type 0} (table : TableMeanings T H R W) (shared 
 -- the workers were moved out of a machine
 pub record IsDetached {F T S P H R W B O M : Type 0} (g : FileMeanings F) (m n : Machine F T S P H R W B O M) (loaders : List (QueuedView F))
     (samplers : List (PassSampler T S H R W B O M)) (t : PassStreamer T H R W) : Type 0 where
-  pub shared : n.shared ≡ m.shared
+  pub shared : arc_value n.shared ≡ arc_value m.shared
   pub gone : n.streamer ≡ None
   pub was : PassStreamer T H R W
   pub there : m.streamer ≡ Some was
   pub streamer_is : t ≡ record was { answers = t.answers }
-  pub loaders_out : AreLoadersOut g m.shared.parts.queues m.streams n.streams was.answers t.answers loaders
+  pub loaders_out : AreLoadersOut g (arc_value m.shared).parts.queues m.streams n.streams was.answers t.answers loaders
   pub samplers_are : samplers ≡ m.pool.samplers.elements
   pub pool : n.pool ≡ record m.pool { samplers = n.pool.samplers }
 
@@ -197,13 +198,13 @@ pub record MayFinishOut {F T S P H R W B O M : Type 0} (g : FileMeanings F) (tab
     (filter : FilterMeanings P) (n : Machine F T S P H R W B O M) (job : Job) (loaders : List (QueuedView F))
     (samplers : List (PassSampler T S H R W B O M)) (t : PassStreamer T H R W) (b : Begun F T S H R W B O M) : Type 0 where
   pub gone : n.streamer ≡ None
-  pub may : MayFinish g table schedule filter n.shared.parts.table n.shared.parts.rows n.shared.parts.queues n.streams n.pool job loaders samplers t b
+  pub may : MayFinish g table schedule filter (arc_value n.shared).parts.table (arc_value n.shared).parts.rows (arc_value n.shared).parts.queues n.streams n.pool job loaders samplers t b
 
 -- how a pass of a machine ends
 abbrev pub PassEnds : {F T S P H R W B O M : Type 0} → FileMeanings F → TableMeanings T H R W → ScheduleMeanings S B O M → FilterMeanings P → Job
     → Result PassReport NoMemory → MachineState → Machine F T S P H R W B O M → Type 0
 PassEnds g table schedule filter job result before p = EndsPassRun (drawing_by_turns filter schedule.DEALT)
-    (drawn_by table filter schedule.DEALT p.pool p.streamer) (IsIdleBy g table p.shared.parts.table p.streamer p.streams p.pool) job result before (state_of g table p)
+    (drawn_by table filter schedule.DEALT p.pool p.streamer) (IsIdleBy g table (arc_value p.shared).parts.table p.streamer p.streams p.pool) job result before (state_of g table p)
 
 -- however the work began, what was done is a pass, and its rows came in it; or memory was refused
 abbrev pub Finishes : {F T S P H R W B O M : Type 0} → FileMeanings F → TableMeanings T H R W → ScheduleMeanings S B O M → FilterMeanings P → Job

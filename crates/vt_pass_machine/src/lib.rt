@@ -6,7 +6,7 @@ mod passes;
 
 pub use machine::Machine;
 pub use passes::{begin_pass, end_pass};
-pub use vt_loading::PassMachine;
+pub use vt_loading::{PassMachine, SentMachine};
 pub use vt_outside::File;
 pub use vt_pass_pool::{
     Dealt, FeedbackCounts, Filter, Geometry, Nothing, PageTable, PassPool, PassSampler,

@@ -1,17 +1,19 @@
 //! The machine.
 
 ghost use Rattle.std.specs.Prelude.{◌≡◌, OnErr};
+ghost use Rattle.std.specs.Arc.{arc_value};
 ghost use Rattle.vt_loading.specs.Jobs.{job_of};
 ghost use Rattle.vt_pass_machine.specs.Machines.{state_of, drawing_by_turns, drawn_by, held_by, IsIdleBy, IsReadyBy, IsDetached, Begun, MayFinishOut, Finishes};
 
-use crate::passes::{end_pass, end_streamer, new_parts, place_page, prepare_pass};
+use crate::passes::{MachineShared, end_pass, end_streamer, new_parts, place_page, prepare_shared};
 use std::alloc::Global;
-use std::marker::PhantomData;
 use std::mem;
 use std::sync::Wait;
 use std::thread::Threads;
 use vt_load::{QueuedLoader, Stores};
-use vt_loading::{Batch, Crew, LoaderPool, PassMachine, PassReport, blank_report, new_queues};
+use vt_loading::{
+    Batch, Crew, LoaderPool, PassMachine, PassReport, SentMachine, blank_report, new_queues,
+};
 use vt_outside::{File, Gate, Items, NoMemory};
 use vt_pass_pool::{
     FeedbackCounts as Counts, Filter, Geometry, Journal, OwnParts, PageTable, PassPool,
@@ -21,22 +23,16 @@ use vt_pass_pool::{
 /// A machine that draws the rows of a picture by a filter from a page table, as a schedule says which sampler draws which row, and that streams
 /// the batch at the same time.
 pub struct Machine<F: File, T: PageTable, S: Schedule, P: Filter> {
-    shared: PassShared<OwnParts<T, S, P>>,
+    // Hands own it too while a pass is run.
+    shared: MachineShared<T, S, P>,
     // It is out while a pass is run.
     streamer: Option<PassStreamer<T>>,
     streams: LoaderPool<F>,
     pool: PassPool<T, S>,
 }
 
-impl<F: File + Send, T: PageTable, S: Schedule, P: Filter + Sync> PassMachine
-    for Machine<F, T, S, P>
-where
-    T::Shared: Sync,
-    T::Reader: Send,
-    T::Writer: Send,
-    S::Shared: Sync,
-    S::Own: Send,
-{
+impl<F: File + Send, T: PageTable, S: Schedule, P: Filter> PassMachine for Machine<F, T, S, P> {
+    ghost use Rattle.std.specs.Arc.{arc_value};
     ghost use Rattle.vt_load.specs.Format.{stored};
     ghost use Rattle.vt_pass_machine.specs.Laws.{come_back, has_ended};
 
@@ -62,10 +58,10 @@ where
 
     ghost state = { λ m. state_of F.File T.PageTable m };
 
-    ghost is_idle = { λ m. IsIdleBy F.File T.PageTable m.shared.parts.table m.streamer m.streams m.pool };
+    ghost is_idle = { λ m. IsIdleBy F.File T.PageTable (arc_value m.shared).parts.table m.streamer m.streams m.pool };
 
-    ghost is_ready = { λ m batch. IsReadyBy F.File T.PageTable S.Schedule m.shared.parts.table m.shared.parts.rows m.shared.parts.queues m.streamer m.streams m.pool
-        batch };
+    ghost is_ready = { λ m batch. IsReadyBy F.File T.PageTable S.Schedule (arc_value m.shared).parts.table
+        (arc_value m.shared).parts.rows (arc_value m.shared).parts.queues m.streamer m.streams m.pool batch };
 
     ghost drawn = { λ m. drawn_by T.PageTable P.Filter S.DEALT m.pool m.streamer };
 
@@ -73,7 +69,7 @@ where
 
     ghost held = { λ m p job lines. held_by T.PageTable P.Filter m.streamer m.pool.samplers.elements p.streamer p.pool job lines };
 
-    ghost lent = { λ m. m.shared };
+    ghost lent = { λ m. arc_value m.shared };
 
     ghost detached = { λ m job n loaders samplers streamer. IsDetached F.File m n loaders samplers streamer };
 
@@ -83,7 +79,7 @@ where
     ghost reattached = { λ n job loaders samplers streamer p result. OnErr result T.refuses
         × Finishes F.File T.PageTable S.Schedule P.Filter job result n loaders samplers streamer p };
 
-    fn make_from<Rt: Threads + Wait + Sync>(
+    fn make_from<Rt: Threads + Wait>(
         rt: &Rt,
         alloc: Global,
         geometry: &Geometry,
@@ -95,7 +91,7 @@ where
     ) -> Result<Self, NoMemory> {
         let (queues, asks, answers) = new_queues(alloc, 1)?;
         let report = blank_report(alloc, 0)?;
-        let (table, writer, rows, pool) = new_parts::<T, S, Rt>(
+        let (shared, writer, pool) = new_parts::<T, S, P, Rt>(
             rt,
             alloc,
             geometry,
@@ -103,6 +99,7 @@ where
             frames,
             crew.samplers,
             depth,
+            queues,
         )?;
         let held = mem::replace(stores, Items::new(alloc));
         let streams = LoaderPool::new(alloc, geometry, crew, depth, asks, held);
@@ -115,21 +112,14 @@ where
             refused: false,
         };
         Ok(Machine {
-            shared: PassShared {
-                parts: OwnParts {
-                    table,
-                    rows,
-                    queues,
-                    filter: PhantomData,
-                },
-            },
+            shared,
             streamer: Some(streamer),
             streams,
             pool,
         })
     }
 
-    fn place<Rt: Threads + Wait + Sync>(
+    fn place<Rt: Threads + Wait>(
         &mut self,
         rt: &Rt,
         page: u32,
@@ -142,18 +132,11 @@ where
         }
     }
 
-    fn prepare<Rt: Threads + Wait + Sync>(
-        &mut self,
-        rt: &Rt,
-        batch: &Batch,
-    ) -> Result<(), NoMemory> {
-        let parts = &mut self.shared.parts;
+    fn prepare<Rt: Threads + Wait>(&mut self, rt: &Rt, batch: &Batch) -> Result<(), NoMemory> {
         match &mut self.streamer {
-            Some(own) => prepare_pass::<Rt, F, T, S>(
+            Some(own) => prepare_shared::<Rt, F, T, S, P>(
                 rt,
-                &parts.table,
-                &mut parts.rows,
-                &mut parts.queues,
+                &mut self.shared,
                 own,
                 &mut self.streams,
                 &mut self.pool,
@@ -185,11 +168,11 @@ where
         }
     }
 
-    fn shared(&self) -> &PassShared<OwnParts<T, S, P>> {
+    fn shared(&self) -> &MachineShared<T, S, P> {
         &self.shared
     }
 
-    fn reattach_workers<Rt: Threads + Wait + Sync, G: Gate + Sync>(
+    fn reattach_workers<Rt: Threads + Wait, G: Gate>(
         &mut self,
         rt: &Rt,
         loaders: Items<QueuedLoader<F>>,
@@ -205,11 +188,12 @@ where
             × Finishes F.File T.PageTable S.Schedule P.Filter (job_of shot.now batch.now.elements) result
             self.old loaders.elements samplers.elements streamer self.new }
     {
+        let parts = &self.shared.parts;
         let report = end_pass::<Rt, F, T, S, P>(
             rt,
-            &self.shared.parts.table,
-            &self.shared.parts.rows,
-            &self.shared.parts.queues,
+            &parts.table,
+            &parts.rows,
+            &parts.queues,
             &mut self.streams,
             &mut self.pool,
             loaders,
@@ -247,7 +231,7 @@ where
         self.pool.picture_into(out)
     }
 
-    fn end<Rt: Threads + Wait + Sync>(self, rt: &Rt) -> Stores<Self::File> {
+    fn end<Rt: Threads + Wait>(self, rt: &Rt) -> Stores<Self::File> {
         let Machine {
             shared: _,
             streamer,
@@ -273,3 +257,12 @@ where
 
     ghost has_answered = { λ job n p c f d r reattached. reattached.0 };
 }
+
+impl<F: File + Send, T: PageTable, S: Schedule, P: Filter + Send + Sync> SentMachine
+    for Machine<F, T, S, P>
+where
+    T::Shared: Send + Sync,
+    T::Reader: Send,
+    S::Shared: Send + Sync,
+    S::Own: Send,
+{}

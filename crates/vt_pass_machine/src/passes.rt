@@ -1,6 +1,7 @@
 //! What a machine does between and around its passes.
 
 ghost use Rattle.std.specs.Prelude.{◌≡◌, ℕ, ◌+◌, ◌<◌, ◌≤◌, ◌*◌, ◌++◌, ◌∷◌, [], false, List, length, IfOk, IsSome, OnOk, OnErr};
+ghost use Rattle.std.specs.Arc.{arc_value};
 ghost use Rattle.vt_load.specs.Limits.{most_samplers, most_versions};
 ghost use Rattle.vt_pass_pool.specs.Depths.{IsDepth};
 ghost use Rattle.vt_pass_pool.specs.Pages.{pages_of, root_of, IsWithinLimits};
@@ -14,21 +15,68 @@ ghost use Rattle.vt_loading.specs.RoundStocks.{AreEmptied};
 ghost use Rattle.vt_loading.specs.LoaderPools.{IsSameStream, HasEndedStream};
 ghost use Rattle.vt_pass_pool.specs.Pools.{IsIdlePool};
 ghost use Rattle.vt_pass_pool.specs.Stills.{IsStill};
+ghost use Rattle.vt_pass_pool.specs.Readers.{AreHome};
 ghost use Rattle.vt_pass_pool.specs.Ended.{HasEnded};
 ghost use Rattle.vt_pass_machine.specs.Machines.{IsSound, HasPlaced, IsIdle, IsPrepared, IsReady, Begun, MayFinish};
 
 use std::alloc::Global;
-use std::sync::Wait;
+use std::marker::PhantomData;
+use std::sync::{Arc, Wait};
 use std::thread::Threads;
 use vt_load::{QueuedLoader, Queues};
 use vt_loading::{Batch, LoaderPool, PassReport};
 use vt_outside::{File, Items, NoMemory};
 use vt_pass_pool::{
-    Filter, Geometry, PageTable, PassPool, PassSampler, PassStreamer, Path, Schedule, Shot,
+    Filter, Geometry, OwnParts, PageTable, PassPool, PassSampler, PassShared, PassStreamer, Path,
+    Schedule, Shot,
 };
 
-/// A page table that maps nothing, with its writer, what is shared of the rows, and what samplers with its readers work with. It may wait.
-pub(crate) fn new_parts<T: PageTable, S: Schedule, R: Wait>(
+/// What the workers of a machine share. Hands own it too, since they outlive a pass.
+pub(crate) type MachineShared<T, S, P> = Arc<PassShared<OwnParts<T, S, P>>>;
+
+// What workers share of a page table, of rows and of queues, and what samplers with these readers work with.
+fn shared_and_pool<T: PageTable, S: Schedule, P: Filter>(
+    alloc: Global,
+    geometry: &Geometry,
+    path: &Path,
+    samplers: u32,
+    depth: u32,
+    table: T::Shared,
+    readers: Items<T::Reader>,
+    queues: Queues,
+) -> Result<(MachineShared<T, S, P>, PassPool<T, S>), NoMemory>
+    requires some { 1 ≤ samplers }
+    requires few { samplers ≤ most_samplers }
+    requires depth { IsDepth depth }
+    requires enough { length readers.elements ≡ samplers }
+    ensures table { IfOk result (λ made. (arc_value made.0).parts.table ≡ table) }
+    ensures idle { IfOk result (λ made. (w : T.Writer) → AreHome (T.is_home w) samplers readers.elements
+        → IsIdlePool T.PageTable w made.1) }
+    ensures geometry { IfOk result (λ made. made.1.geometry ≡ geometry.now) }
+    ensures depth { IfOk result (λ made. made.1.depth ≡ depth) }
+    ensures width { IfOk result (λ made. made.1.width ≡ path.now.width) }
+    ensures height { IfOk result (λ made. made.1.height ≡ path.now.height) }
+    ensures count { IfOk result (λ made. made.1.count ≡ samplers) }
+{
+    let (rows, home) = S::make(alloc)?;
+    let pool = PassPool::<T, S>::new(alloc, geometry, path, samplers, depth, readers, home)?;
+    let shared = Arc::new(
+        alloc,
+        PassShared {
+            parts: OwnParts {
+                table,
+                rows,
+                queues,
+                filter: PhantomData,
+            },
+        },
+    )?;
+    Ok((shared, pool))
+}
+
+/// What the workers of a machine share, with a page table that maps nothing and these queues, the writer of the page table, and what samplers with its
+/// readers work with. It may wait.
+pub(crate) fn new_parts<T: PageTable, S: Schedule, P: Filter, R: Wait>(
     rt: &R,
     alloc: Global,
     geometry: &Geometry,
@@ -36,29 +84,31 @@ pub(crate) fn new_parts<T: PageTable, S: Schedule, R: Wait>(
     frames: u32,
     samplers: u32,
     depth: u32,
-) -> Result<(T::Shared, T::Writer, S::Shared, PassPool<T, S>), NoMemory>
+    queues: Queues,
+) -> Result<(MachineShared<T, S, P>, T::Writer, PassPool<T, S>), NoMemory>
     requires frames { AreFrames geometry.now frames }
     requires some { 1 ≤ samplers }
     requires few { samplers ≤ most_samplers }
     requires depth { IsDepth depth }
-    ensures of { IfOk result (λ made. T.is_of made.0 made.1) }
+    ensures of { IfOk result (λ made. T.is_of (arc_value made.0).parts.table made.1) }
     ensures shape { IfOk result (λ made. T.shape made.1 ≡ geometry.now) }
     ensures frames { IfOk result (λ made. T.frame_count made.1 ≡ frames) }
     ensures empty { IfOk result (λ made. T.journal made.1 ≡ []) }
     ensures unfilled { IfOk result (λ made. (page : ℕ) (words : List ℕ) → T.is_filled made.1 page words → ⊥) }
-    ensures idle { IfOk result (λ made. IsIdlePool T.PageTable made.1 made.3) }
-    ensures geometry { IfOk result (λ made. made.3.geometry ≡ geometry.now) }
-    ensures depth { IfOk result (λ made. made.3.depth ≡ depth) }
-    ensures width { IfOk result (λ made. made.3.width ≡ path.now.width) }
-    ensures height { IfOk result (λ made. made.3.height ≡ path.now.height) }
-    ensures count { IfOk result (λ made. made.3.count ≡ samplers) }
+    ensures idle { IfOk result (λ made. IsIdlePool T.PageTable made.1 made.2) }
+    ensures geometry { IfOk result (λ made. made.2.geometry ≡ geometry.now) }
+    ensures depth { IfOk result (λ made. made.2.depth ≡ depth) }
+    ensures width { IfOk result (λ made. made.2.width ≡ path.now.width) }
+    ensures height { IfOk result (λ made. made.2.height ≡ path.now.height) }
+    ensures count { IfOk result (λ made. made.2.count ≡ samplers) }
     ensures limits { IsWithinLimits geometry.now }
 {
     let _pages = geometry.page_count();
-    let (rows, home) = S::make(alloc)?;
     let (table, writer, readers) = T::make::<R>(rt, alloc, geometry, frames, samplers)?;
-    match PassPool::<T, S>::new(alloc, geometry, path, samplers, depth, readers, home) {
-        Ok(pool) => Ok((table, writer, rows, pool)),
+    match shared_and_pool::<T, S, P>(
+        alloc, geometry, path, samplers, depth, table, readers, queues,
+    ) {
+        Ok((shared, pool)) => Ok((shared, writer, pool)),
         Err(refusal) => {
             T::end::<R>(rt, writer);
             Err(refusal)
@@ -142,8 +192,8 @@ pub fn begin_pass<Rt: Threads + Wait, F: File, T: PageTable, S: Schedule>(
     streams.ask(rt, queues, batch);
 }
 
-/// Makes all room for a pass that streams a batch, makes the samplers ready, and puts its requests into new queues.
-pub(crate) fn prepare_pass<Rt: Threads + Wait, F: File, T: PageTable, S: Schedule>(
+// Makes all room for a pass that streams a batch, makes the samplers ready, and puts its requests into new queues.
+fn prepare_pass<Rt: Threads + Wait, F: File, T: PageTable, S: Schedule>(
     rt: &Rt,
     table: &T::Shared,
     rows: &mut S::Shared,
@@ -171,6 +221,45 @@ pub(crate) fn prepare_pass<Rt: Threads + Wait, F: File, T: PageTable, S: Schedul
     pool.prepare::<Rt>(rt, rows)?;
     begin_pass::<Rt, F, T, S>(rt, table, queues, own, streams, pool, batch);
     Ok(())
+}
+
+/// Prepares a pass with what workers share, which no hand owns between passes.
+pub(crate) fn prepare_shared<Rt: Threads + Wait, F: File, T: PageTable, S: Schedule, P: Filter>(
+    rt: &Rt,
+    shared: &mut MachineShared<T, S, P>,
+    own: &mut PassStreamer<T>,
+    streams: &mut LoaderPool<F>,
+    pool: &mut PassPool<T, S>,
+    batch: &Batch,
+) -> Result<(), NoMemory>
+    requires idle { IsIdle F.File T.PageTable (arc_value shared.old).parts.table own.old streams.old pool.old }
+    requires root { IsSome (newest (T.journal own.old.writer) (root_of (T.shape own.old.writer))) }
+    requires lawful { IsBatchFor (T.shape own.old.writer) (T.frame_count own.old.writer) (newest (T.journal own.old.writer))
+        batch.now.elements }
+    requires few { length batch.now.elements ≤ streams.old.crew.batch }
+    requires early { length (T.journal own.old.writer) ≤ last_start }
+    ensures ready { OnOk result (IsReady F.File T.PageTable S.Schedule (arc_value shared.new).parts.table (arc_value shared.new).parts.rows
+        (arc_value shared.new).parts.queues own.new streams.new pool.new batch.now.elements) }
+    ensures still { IsStill T.PageTable (arc_value shared.old).parts.table own.old.writer own.new.writer }
+    ensures streams { IsSameStream F.File streams.old streams.new }
+    ensures sides { (pool.new.width ≡ pool.old.width) × (pool.new.height ≡ pool.old.height) }
+{
+    match Arc::get_mut(shared) {
+        Some(shared) => {
+            let parts = &mut shared.parts;
+            prepare_pass::<Rt, F, T, S>(
+                rt,
+                &parts.table,
+                &mut parts.rows,
+                &mut parts.queues,
+                own,
+                streams,
+                pool,
+                batch,
+            )
+        }
+        None => Err(NoMemory),
+    }
 }
 
 /// Ends the round of the loaders, brings the samplers home, and tells what the pass did, if memory was not refused. It may wait.

@@ -13,6 +13,7 @@ pub use Rattle.vt_pass_rows.specs.PageTableTypes
 pub use Rattle.vt_pass_rows.specs.PassSamplers
 pub use Rattle.vt_pass_rows.specs.Paths
 pub use Rattle.vt_pass_rows.specs.PicturesTypes
+pub use Rattle.vt_pass_rows.specs.Readers
 pub use Rattle.vt_pass_rows.specs.Replays
 pub use Rattle.vt_pass_rows.specs.Rows
 pub use Rattle.vt_pass_rows.specs.Samplers

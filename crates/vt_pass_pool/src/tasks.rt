@@ -10,10 +10,10 @@ use std::sync::Wait;
 use std::thread::Threads;
 use vt_load::QueuedLoader;
 use vt_outside::{File, Gate};
-use vt_pass_rows::{PassSampler, Planned, Schedule, Shot, Task};
+use vt_pass_rows::{HandTask, PassSampler, Planned, Schedule, Shot, Task};
 use vt_pass_stream::stream_into;
 
-impl<C: InCommon + Sync> Task<PassShared<C>> for PassSampler<C::Table, C::Rows> {
+impl<C: InCommon> HandTask<PassShared<C>> for PassSampler<C::Table, C::Rows> {
     // Where samplers share rows, so that a sampler whose row is slow holds up no other.
     const ALONE: bool = !<C::Rows as Schedule>::DEALT;
 
@@ -29,14 +29,13 @@ impl<C: InCommon + Sync> Task<PassShared<C>> for PassSampler<C::Table, C::Rows> 
         rt: &Rt,
         shared: &PassShared<C>,
         shot: &Shot<'_>,
-        _batch: &[Planned],
         gate: &G,
     ) {
         self.draw::<C::Look, G, Rt>(rt, shared.parts.table(), shared.parts.rows(), shot, gate);
     }
 }
 
-impl<C: InCommon + Sync> Task<PassShared<C>> for PassStreamer<C::Table> {
+impl<C: InCommon> Task<PassShared<C>> for PassStreamer<C::Table> {
     ghost ready = { λ shared job a. MayStream C.Table.PageTable (C.InCommon.table shared.parts) (C.InCommon.queues shared.parts) job.batch a };
 
     ghost did = { λ shared job a b. HasStreamed C.Table.PageTable (C.InCommon.table shared.parts) (C.InCommon.queues shared.parts) job.batch a b };
@@ -64,7 +63,7 @@ impl<C: InCommon + Sync> Task<PassShared<C>> for PassStreamer<C::Table> {
     }
 }
 
-impl<C: InCommon + Sync, F: File> Task<PassShared<C>> for QueuedLoader<F> {
+impl<C: InCommon, F: File> HandTask<PassShared<C>> for QueuedLoader<F> {
     ghost ready = { λ shared job loader. MayLoad F.File (C.InCommon.queues shared.parts) loader };
 
     ghost did = { λ shared job before after. HasLoaded F.File (C.InCommon.queues shared.parts) before after };
@@ -74,7 +73,6 @@ impl<C: InCommon + Sync, F: File> Task<PassShared<C>> for QueuedLoader<F> {
         rt: &Rt,
         shared: &PassShared<C>,
         _shot: &Shot<'_>,
-        _batch: &[Planned],
         gate: &G,
     ) {
         self.run(rt, shared.parts.queues(), gate);

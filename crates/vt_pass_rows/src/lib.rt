@@ -5,5 +5,7 @@ mod rows;
 mod sampler;
 
 pub use sampler::PassSampler;
-pub use vt_page_table::{FeedbackCounts, Filter, Geometry, PageTable, Path, Planned, Shot, Task};
+pub use vt_page_table::{
+    FeedbackCounts, Filter, Geometry, HandTask, PageTable, Path, Planned, Shot, Task,
+};
 pub use vt_schedules::{Dealt, Nothing, RowJob, Schedule, Shared};

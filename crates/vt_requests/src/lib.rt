@@ -9,6 +9,6 @@ pub use asks::{ask_batch, give_back};
 pub use report::StreamReport;
 pub use rounds::rounds_are_passes;
 pub use vt_machine::{
-    Batch, Crew, Events, FeedbackCounts as Counts, Losses, PassMachine, PassReport, Planned, Shot,
-    Task, work_together,
+    Batch, Crew, Events, FeedbackCounts as Counts, Losses, PassMachine, PassReport, Planned,
+    SentMachine, Shot, work_together,
 };

@@ -4,7 +4,7 @@ use Rattle.vt_pass_machine.proofs.machine.MachinePassMachine.make_from.Goals as 
 
 pub returns-clause-idle : goal.returns-clause-idle
 returns-clause-idle g c =
-    let made = c.in_ok-table.ensures in
+    let made = c.in_ok-shared.ensures in
     let pool = c.new-streams.ensures in
     idle_made g.F.File g.T.PageTable _ _ c.new-streams.result _ c.args.geometry.now c.args.depth c.args.crew.now made.of made.shape made.unfilled
     refl refl c.new_parts.ensures.limits pool.pool pool.shape pool.depth pool.crew made.idle made.geometry made.depth made.count
