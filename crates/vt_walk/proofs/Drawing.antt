@@ -5,7 +5,6 @@ use Rattle.std.specs.List.{concat}
 use Rattle.vt_pages.specs.Pages.{IsWithinLimits}
 use Rattle.vt_ppm.specs.Picture.{picture_bytes}
 use Rattle.vt_journal.specs.declared.changes.Change.{Change}
-use Rattle.vt_journal.specs.declared.changes.RowLine.{RowLine}
 use Rattle.vt_journal.specs.Changes.{Table, newest}
 use Rattle.vt_tiles.specs.StoreViews.{IsStore}
 use Rattle.vt_walk_decisions.specs.Scenes.{Scene}

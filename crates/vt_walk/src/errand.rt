@@ -56,6 +56,8 @@ impl<'w, 'd, 'm, 'r, 'o, M: PassMachine, D: OutputFolder, O: Sink, G: Gate> Erra
         rt: &Rt,
         desks: &mut Desks<LentWorker<'w, M::Shared, M::Loader, M::Sampler, G>>,
     ) {
+        // A pass that finds no hand is done by this thread alone.
+        desks.await_hands(rt);
         let mut buffer = Vec::new(self.alloc);
         self.walked = walk_on(
             rt,

@@ -1,4 +1,4 @@
-use Rattle.std.proofs.Common.{◌-◌, ◌∷◌, refl, sym, subst, arith, ◌∙◌}
+use Rattle.std.proofs.Common.{◌-◌, ◌∷◌, refl, sym, subst, arith}
 use Rattle.std.proofs.lemmas.Result.{err_from_is_err_and}
 use Rattle.vt_walk_decisions.specs.declared.steps.Next.{Next}
 use Rattle.vt_walk.specs.WalkEffects.{state_by}
