@@ -1,5 +1,5 @@
-pub use Rattle.vt_requests.proofs.Lent
 pub use Rattle.vt_requests.proofs.Ready
+pub use Rattle.vt_requests.proofs.Refilled
 pub mod StreamRooms
 pub mod StreamEnd
 pub mod FirstStores

@@ -7,7 +7,7 @@ use Rattle.std.specs.List.{refill}
 use Rattle.vt_outside.specs.declared.outside.File.{Ghosts as FileMeanings}
 use Rattle.vt_tiles.specs.Shape.{Shape}
 use Rattle.vt_tiles.specs.StoreViews.{StoreView}
-use Rattle.vt_requests.proofs.Lent.{refilled}
+use Rattle.vt_requests.proofs.Refilled.{refilled}
 use Rattle.vt_requests.specs.Machines.{file_state, files_of, known_bytes, AreStoresFor}
 use Rattle.vt_loading.specs.SameStores.{IsSameStore, AreSameStores}
 

@@ -1,2 +1,3 @@
+pub use Rattle.vt_streaming.proofs.Refilled
 mod Applying
 mod Lasting

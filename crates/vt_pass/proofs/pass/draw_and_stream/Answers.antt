@@ -6,7 +6,7 @@ use Rattle.vt_load.specs.QueuedLoaders.{QueuedView, MayLoad, HasLoaded}
 use Rattle.vt_loading.specs.PlanTypes.batches.Planned.{Planned}
 use Rattle.vt_loading.specs.All.{AllReady}
 use Rattle.vt_loading.specs.Jobs.{Job, job_of}
-use Rattle.vt_loading.proofs.Lent.{same_number, all_did}
+use Rattle.vt_loading.proofs.Refilled.{same_number, all_did}
 use Rattle.vt_pass_machine.specs.Samplers.{row_length}
 use Rattle.vt_pass_machine.specs.PassSamplers.{MayDraw, HasDrawn}
 use Rattle.vt_pass_machine.specs.PassTasks.{MayStream, HasStreamed}
