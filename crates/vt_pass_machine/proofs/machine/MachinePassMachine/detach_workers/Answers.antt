@@ -1,5 +1,4 @@
 use Rattle.std.proofs.Common.{sym, ◌∙◌, refl, subst}
-use Rattle.std.specs.Arc.{arc_value}
 use Rattle.vt_loading.specs.Jobs.{job_of}
 use Rattle.vt_loading.specs.LoaderPools.{IsAskedStream, AreLoadersOut}
 use Rattle.vt_pass_pool.specs.declared.shared.OwnParts.{OwnParts}
