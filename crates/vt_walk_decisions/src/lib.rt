@@ -17,6 +17,6 @@ pub use settings::{Names, Settings};
 pub use steps::{Drawn, Next, NextPlan, Passed, WalkStep, drawn_of, step_after};
 pub use tallies::Tally;
 pub use vt_machine::{
-    Crew, Desks, Errand, HandTask, LentWorker, Meanwhile, Nothing, PassMachine, PassReport,
-    SentMachine, hands_for, run_with_crew,
+    Crew, Desks, Errand, LentWorker, Meanwhile, Nothing, PassMachine, PassReport, SentMachine,
+    hands_for, run_with_crew,
 };
