@@ -1,4 +1,4 @@
-//! Laws of machines: each is the contract of a function that does nothing.
+//! A law of the rows of a pass: it is the contract of a function that does nothing.
 
 ghost use Rattle.std.specs.Prelude.{List};
 ghost use Rattle.vt_pass_machine.specs.Jobs.{Job};
@@ -7,8 +7,7 @@ ghost use Rattle.vt_pass_machine.specs.Placing.{bytes_of};
 ghost use Rattle.vt_pass_machine.specs.Machines.{OfWriters};
 ghost use Rattle.vt_pass_machines.specs.NewRows.{AreEnteredRows};
 
-use crate::{BlendMachine, StealMachine, SwapMachine, WordMachine};
-use vt_pass_machine::{File, Filter, Machine, PassMachine, Schedule, SentMachine};
+use vt_pass_machine::{File, Filter, Machine, PassMachine, Schedule};
 use vt_swap_table::SwapTable;
 
 /// How the rows of a pass came that was run over the swapped table: the reader of each row's sampler entered the row's version in it,
@@ -18,14 +17,4 @@ pub fn rows_of_a_swapped_table_were_entered<F: File + Send, S: Schedule, P: Filt
         (m : _) (p : _) (job : Job) (lines : List RowLine) → swapped.held m p job lines
         → OfWriters (λ v w. AreEnteredRows P.Filter p.pool.geometry p.pool.depth w.streamer m.pool.samplers.elements
         p.pool.samplers.elements job.scene.path job.picture lines (bytes_of p.pool.drawn.elements)) m.streamer p.streamer }
-{}
-
-/// The workers of each machine may go to the hands of a crew. The clause only names what the machines are for a crew, which is there where their
-/// parts may be sent and shared.
-pub fn workers_may_be_sent<F: File + Send>()
-    ensures { let word = ⟦<WordMachine<F> as SentMachine>⟧ in
-        let swap = ⟦<SwapMachine<F> as SentMachine>⟧ in
-        let steal = ⟦<StealMachine<F> as SentMachine>⟧ in
-        let blend = ⟦<BlendMachine<F> as SentMachine>⟧ in
-        Unit {0} }
 {}

@@ -3,7 +3,7 @@
 
 mod laws;
 
-pub use laws::{rows_of_a_swapped_table_were_entered, workers_may_be_sent};
+pub use laws::rows_of_a_swapped_table_were_entered;
 pub use vt_pass_machine::{Dealt, Machine, Shared};
 pub use vt_plain_bilinear::Bilinear;
 pub use vt_swap_table::SwapTable;
