@@ -1,14 +1,22 @@
-// usage: arrangement plain TEXTURE PATH PREFIX [keep] | arrangement tile TEXTURE STORE
+// usage: arrangement plain TEXTURE PATH PREFIX [keep] [FORM] | arrangement tile TEXTURE STORE [FORM [REST [ROOMS]]]
 // (cc -O3 -pthread arrangement.c -o arrangement)
 //
 // What `plain` and `tile` take in C where they arrange their work as the program may: threads are forked and joined, one of them reads the
 // texture, one writes files in their order, and room is written before it is read into. A strip is read while the one before it is halved, and
 // added while the next one is. `plain` keeps level 0 only by `keep`, for a path that sees it. The files are those of the program.
 //
+// A form is another arrangement. Of `tile` it is `now`, the program's own, or stages of rounds, as `r,h,c,a` (`run_stage`): those for level 0, and in
+// REST, without `r`, for the levels behind it, with so many rooms between them. `r` reads strips, `h` halves them, `c` cuts them, `a` adds their tiles;
+// a comma begins a stage, which has a thread of its own; an `f` in the first one has it fork and join threads for its strip, an `x` has two threads do
+// it in turn, a `k` at the end has each strip carry its tiles, a `!` gives the last stage a new thread. Of `plain` it is how many threads draw, and how
+// many rooms each has, as `32`; `lr,h` behind it reads and halves the texture in rounds. Rounds are proved to end: `take` looks a bounded number of times.
+//
 // It takes what tests/measure/run.py makes: one byte a sample, the maximum 255, one flight along the columns, a tile side of 64.
 #include <arpa/inet.h>
 #include <fcntl.h>
 #include <pthread.h>
+#include <sched.h>
+#include <stdatomic.h>
 #include <stdint.h>
 #include <stdio.h>
 #include <stdlib.h>
@@ -317,7 +325,191 @@ static void tile_level(int level, uint8_t *front, uint8_t *back, uint8_t *tiles,
     add_tiles(&added);
 }
 
-static void tile(const char *name) {
+// The program's own arrangement: a row of tiles is added while the next strip is read and room for its half is written; then it is halved beside
+// being cut. Behind level 0 a row of tiles is cut, and added while its rows are halved, into the room of their own level.
+static void make_half_room(void *given) {
+    Rows *it = given;
+    memset(it->out, 0, row_size(it->level + 1) * ((it->count + 1) / 2));
+}
+
+static void tile_as_the_program(uint8_t *rows, uint8_t *front, uint8_t *back) {
+    Rows added = {0, 0, 0, 1, NULL, NULL};
+    samples[1] = malloc(row_size(1) * height[1]);
+    for (int first = 0; first < height[0]; first += SIDE) {
+        int count = least(SIDE, height[0] - first);
+        Rows read = {0, first, count, 1, rows, NULL}, half = {0, first, count, 1, rows, samples[1] + row_size(1) * (first / 2)};
+        Rows cut = {0, first, count, 1, rows, front};
+        Job reading[] = {{add_tiles, &added}, {read_rows, &read}, {make_half_room, &half}}, making[] = {{cut_rows, &cut}, {halve_rows, &half}};
+        if (added.out) fork_join(reading, 3);
+        else make_half_room(&half), read_rows(&read);
+        fork_join(making, 2);
+        added = cut;
+        uint8_t *other = front;
+        front = back;
+        back = other;
+    }
+    add_tiles(&added);
+    for (int level = 1; level < levels; level++) {
+        samples[level] = samples[1];
+        for (int first = 0; first < height[level]; first += SIDE) {
+            uint8_t *from = samples[level] + row_size(level) * first;
+            Rows cut = {level, first, least(SIDE, height[level] - first), 1, from, front};
+            Rows half = {level, first, cut.count, 1, from, level + 1 < levels ? samples[1] + row_size(level + 1) * (first / 2) : NULL};
+            Job jobs[] = {{add_tiles, &cut}, {halve_rows, &half}};
+            cut_rows(&cut);
+            fork_join(jobs, half.out && tiles_size(level) > WORTH ? 2 : 1);
+            if (half.out && tiles_size(level) <= WORTH) halve_rows(&half);
+        }
+    }
+}
+
+// Rounds: stages are forked and joined, and hand strips and rows of tiles on by queues with one thread at each end. A stage looks a bounded number
+// of times for what it needs, and then ends its part of the round. It keeps what it has, and goes on in the next round.
+enum { ROOMS = 8, SPINS = 200, YIELDS = 1000000, MOST_STAGES = 5, WORTH = 200000 };
+
+typedef struct {
+    uint8_t *items[ROOMS];
+    _Alignas(128) atomic_uint put;
+    _Alignas(128) atomic_uint taken;
+} Queue;
+
+static void put(Queue *queue, uint8_t *item) {
+    unsigned at = atomic_load_explicit(&queue->put, memory_order_relaxed);
+    queue->items[at % ROOMS] = item;
+    atomic_store_explicit(&queue->put, at + 1, memory_order_release);
+}
+
+static uint8_t *take(Queue *queue) {
+    unsigned at = atomic_load_explicit(&queue->taken, memory_order_relaxed);
+    for (int look = 0; look < SPINS + YIELDS; look++) {
+        if (atomic_load_explicit(&queue->put, memory_order_acquire) != at) {
+            uint8_t *item = queue->items[at % ROOMS];
+            atomic_store_explicit(&queue->taken, at + 1, memory_order_release);
+            return item;
+        }
+        if (look < SPINS) __builtin_ia32_pause();
+        else sched_yield();
+    }
+    return NULL;
+}
+
+// A stage reads strips (r), halves them (h), cuts them (c) or adds their tiles (a), or some of these. Where a stage stands several times, each does
+// every so many strips.
+typedef struct {
+    int reads, halves, cuts, adds, forks, carries, every, twins, strip;
+    Queue *strips_from, *strips_to, *tiles_from, *tiles_to;
+    uint8_t *rows, *tiles, *ahead;
+} Stage;
+
+static int stage_level;
+
+static int strips_of(int level) { return (height[level] + SIDE - 1) / SIDE; }
+
+static void halve_with_room(void *given) {
+    make_half_room(given);
+    halve_rows(given);
+}
+
+// Cuts and halves a strip and reads the next one, in threads that are joined.
+static void make_and_read(Stage *it, Rows *work) {
+    if (!it->ahead) it->ahead = room_of(row_size(0) * SIDE), read_rows(work);
+    int next = work->first + SIDE;
+    Rows cut = {0, work->first, work->count, 1, work->rows, it->tiles}, read = {0, next, least(SIDE, height[0] - next), 1, it->ahead, NULL};
+    Rows half = {0, work->first, work->count, 1, work->rows, samples[1] + row_size(1) * (work->first / 2)};
+    Job jobs[] = {{cut_rows, &cut}, {halve_with_room, &half}, {read_rows, &read}};
+    fork_join(jobs, next < height[0] ? 3 : 2);
+    it->ahead = work->rows;
+    it->rows = read.rows;
+    put(it->tiles_to, it->tiles);
+    it->tiles = NULL;
+}
+
+static void run_stage(void *given) {
+    Stage *it = given;
+    int level = stage_level;
+    for (; it->strip < strips_of(level); it->strip += it->every) {
+        int first = it->strip * SIDE, count = least(SIDE, height[level] - first);
+        if (it->strips_from && !it->rows && !(it->rows = take(it->strips_from))) return;
+        if (it->tiles_from && !it->tiles && !(it->tiles = take(it->tiles_from + it->strip % it->twins))) return;
+        if (it->carries) it->tiles = it->rows + row_size(0) * SIDE;
+        uint8_t *rows = level ? samples[level] + row_size(level) * first : it->rows;
+        Rows work = {level, first, count, 1, rows, NULL};
+        if (it->forks) {
+            make_and_read(it, &work);
+            continue;
+        }
+        if (it->reads && !level) read_rows(&work);
+        work.out = it->tiles;
+        if (it->cuts) cut_rows(&work);
+        if (it->adds) add_tiles(&work);
+        work.out = level + 1 < levels ? samples[level + 1] + row_size(level + 1) * (first / 2) : NULL;
+        if (it->halves && work.out) {
+            if (!level) make_half_room(&work);
+            halve_rows(&work);
+        }
+        if (it->strips_from) put(it->strips_to, it->rows), it->rows = NULL;
+        if (it->tiles_from) put(it->tiles_to + it->strip % it->twins, it->tiles), it->tiles = NULL;
+    }
+}
+
+// Tiles a level by rounds of the stages of a form. The last stage is this thread's.
+static void tile_in_rounds(int level, const char *form, int room_count, uint8_t **rooms, uint8_t **tile_rooms) {
+    static Queue queues[16];
+    Stage stages[MOST_STAGES] = {{0}};
+    Job jobs[MOST_JOBS];
+    Queue *free_tiles = &queues[8], *full_tiles = &queues[10];
+    int count = 0, strip_stages[MOST_STAGES], strips = 0, cutter = -1, adder = -1, twins = 1, turned = 0, carries = 0;
+    memset(queues, 0, sizeof queues);
+    for (const char *at = form; *at; at++) {
+        Stage *it = &stages[count];
+        it->every = it->twins = 1;
+        if (*at == 'r') it->reads = 1;
+        if (*at == 'h') it->halves = 1;
+        if (*at == 'c') it->cuts = 1, cutter = count;
+        if (*at == 'a') it->adds = 1, adder = count;
+        if (*at == 'x') twins = 2;
+        if (*at == 'f') it->forks = 1;
+        if (*at == 'k') carries = 1;
+        if (*at == '!') turned = 1;
+        if (*at == ',') count++;
+    }
+    count++;
+    for (int i = 0; i < count; i++)
+        if (carries || stages[i].reads || stages[i].halves || stages[i].cuts) strip_stages[strips++] = i;
+    for (int i = 0; i < count; i++) stages[i].carries = carries;
+    // Strips go round: from each stage to the next one, and back to the first.
+    for (int i = 0; i < strips; i++) {
+        stages[strip_stages[i]].strips_from = &queues[i];
+        stages[strip_stages[i]].strips_to = &queues[(i + 1) % strips];
+    }
+    if (carries) cutter = adder = -1;
+    if (cutter >= 0) stages[cutter].tiles_from = free_tiles, stages[cutter].tiles_to = cutter == adder ? free_tiles : full_tiles;
+    if (adder >= 0 && cutter != adder) stages[adder].tiles_from = full_tiles, stages[adder].tiles_to = free_tiles;
+    if (twins == 2) {
+        stages[2] = stages[1];
+        stages[2].twins = 2;
+        stages[1] = stages[0];
+        stages[0].every = stages[1].every = 2;
+        stages[1].strip = 1;
+        stages[1].strips_from = stages[1].strips_to = &queues[1];
+        stages[1].tiles_from = &free_tiles[1];
+        stages[1].tiles_to = &full_tiles[1];
+        count = 3;
+    }
+    for (int i = 0; i < room_count * twins; i++) {
+        put(&queues[i % twins], rooms[i]);
+        put(&free_tiles[i % twins], tile_rooms[i]);
+    }
+    stage_level = level;
+    for (int left = 1; left;) {
+        for (int i = 0; i < count; i++) jobs[i] = (Job){run_stage, &stages[turned ? i : count - 1 - i]};
+        fork_join(jobs, count);
+        left = 0;
+        for (int i = 0; i < count; i++) left |= stages[i].strip < strips_of(level);
+    }
+}
+
+static void tile(const char *name, const char *form, const char *rest, int room_count) {
     uint8_t *front = room_of(row_size(0) * SIDE), *back = room_of(row_size(0) * SIDE);
     uint8_t *tiles = room_of(tiles_size(0)), *others = room_of(tiles_size(0));
     Rows read = {0, 0, least(SIDE, height[0]), 1, front, NULL};
@@ -325,21 +517,107 @@ static void tile(const char *name) {
     store = open(name, O_WRONLY | O_CREAT | O_TRUNC, 0666);
     write_all(store, (const uint8_t *)"VTS1", 4);
     write_all(store, (const uint8_t *)sides, sizeof sides);
-    read_rows(&read);
-    for (int level = 0; level < levels; level++) tile_level(level, front, back, tiles, others);
+    if (!form) {
+        read_rows(&read);
+        for (int level = 0; level < levels; level++) tile_level(level, front, back, tiles, others);
+    } else if (!strcmp(form, "now")) {
+        tile_as_the_program(front, tiles, others);
+    } else {
+        uint8_t *rooms[2 * ROOMS], *tile_rooms[2 * ROOMS];
+        for (int i = 0; i < 2 * room_count; i++) rooms[i] = malloc(row_size(0) * SIDE + tiles_size(0)), tile_rooms[i] = malloc(tiles_size(0));
+        samples[1] = malloc(row_size(1) * height[1]);
+        for (int level = 2; level < levels; level++) samples[level] = samples[1];
+        for (int level = 0; level < levels; level++) {
+            tile_in_rounds(level, level ? tiles_size(level) > WORTH ? rest : "cah" : form, room_count, rooms, tile_rooms);
+        }
+    }
     close(store);
+}
+
+// Pictures, or bands of one, are drawn by some threads in turn, each into rooms of its own, while the first thread writes what is drawn, in order.
+enum { BAND = 64 };
+
+typedef struct {
+    int first, every, bands;
+    Queue *from, *to;
+    uint8_t *room;
+} Drawer;
+
+static int band_line(int band, int bands) { return bands == 1 ? band * lines : least(band * BAND, lines); }
+
+static void draw_turn(void *given) {
+    Drawer *it = given;
+    for (; it->first < pictures * it->bands; it->first += it->every) {
+        int picture = it->first / it->bands, band = it->first % it->bands;
+        int64_t u = pictures < 2 ? begin_u : begin_u + (end_u - begin_u) * picture / (pictures - 1);
+        if (!it->room && !(it->room = take(it->from))) return;
+        uint8_t *out = it->room;
+        if (band == 0) memcpy(out, header, (size_t)header_size), out += header_size;
+        for (int y = band_line(band, it->bands); y < band_line(band + 1, it->bands); y++, out += 3 * (size_t)columns) draw_row(u, y, out);
+        put(it->to, it->room);
+        it->room = NULL;
+    }
+}
+
+static void write_turn(void *given) {
+    Drawer *it = given;
+    static int file;
+    char name[256];
+    for (; it->first < pictures * it->bands; it->first++) {
+        int picture = it->first / it->bands, band = it->first % it->bands, drawer = it->first % it->every;
+        uint8_t *room = take(it->from + drawer);
+        if (!room) return;
+        if (band == 0) {
+            snprintf(name, sizeof name, "%s%04d.ppm", prefix, picture);
+            file = open(name, O_WRONLY | O_CREAT | O_TRUNC, 0666);
+        }
+        write_all(file, room, 3 * (size_t)columns * (band_line(band + 1, it->bands) - band_line(band, it->bands)) + (band == 0 ? header_size : 0));
+        if (band + 1 == it->bands) close(file);
+        put(it->to + drawer, room);
+    }
+}
+
+// The form says how many threads draw, and in how many rooms each.
+static void plain_in_rounds(const char *form) {
+    static Queue empty[MOST_JOBS], full[MOST_JOBS];
+    int drawers = form[0] - '0', room_count = form[1] - '0', bands = file_size < 3 * GROUP_PIXELS ? 1 : (lines + BAND - 1) / BAND;
+    Drawer stages[MOST_JOBS], writer = {0, drawers, bands, full, empty, NULL};
+    Job jobs[MOST_JOBS] = {{write_turn, &writer}};
+    for (int i = 0; i < drawers; i++) {
+        stages[i] = (Drawer){i, drawers, bands, &empty[i], &full[i], NULL};
+        jobs[i + 1] = (Job){draw_turn, &stages[i]};
+        for (int k = 0; k < room_count; k++) put(&empty[i], malloc(bands == 1 ? file_size : (size_t)header_size + 3 * (size_t)columns * BAND));
+    }
+    for (; writer.first < pictures * bands;) fork_join(jobs, drawers + 1);
+}
+
+// Makes the levels from 1 on: strips are read and halved in rounds.
+static void read_levels_in_rounds(const char *form) {
+    uint8_t *rooms[2 * ROOMS], *none[2 * ROOMS] = {NULL};
+    for (int i = 0; i < 2 * ROOMS; i++) rooms[i] = malloc(row_size(0) * SIDE);
+    samples[1] = malloc(row_size(1) * height[1]);
+    tile_in_rounds(0, form, ROOMS, rooms, none);
+    for (int level = 2; level < levels; level++) {
+        int worth = 3 * width[level] * height[level] / 100000;
+        samples[level] = malloc(row_size(level) * height[level]);
+        Rows half = {level - 1, 0, height[level - 1], worth < 2 ? 1 : least(worth, THREADS), samples[level - 1], samples[level]};
+        halve_in_threads(&half);
+    }
 }
 
 int main(int count, char **words) {
     if (count < 4 || (strcmp(words[1], "tile") && (strcmp(words[1], "plain") || count < 5))) return 2;
     open_texture(words[2]);
     if (!strcmp(words[1], "tile")) {
-        tile(words[3]);
+        tile(words[3], count > 4 ? words[4] : NULL, count > 5 ? words[5] : "ch,a", count > 6 ? atoi(words[6]) : 3);
         return 0;
     }
     read_path(words[3]);
     prefix = words[4];
-    read_levels(count > 5);
-    plain();
+    int keep = count > 5 && !strcmp(words[5], "keep");
+    if (count > 5 + keep && strchr(words[5 + keep], 'l')) read_levels_in_rounds(strchr(words[5 + keep], 'l') + 1);
+    else read_levels(keep);
+    if (count > 5 + keep) plain_in_rounds(words[5 + keep]);
+    else plain();
     return 0;
 }
