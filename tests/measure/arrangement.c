@@ -5,11 +5,11 @@
 // texture, one writes files in their order, and room is written before it is read into. A strip is read while the one before it is halved, and
 // added while the next one is. `plain` keeps level 0 only by `keep`, for a path that sees it. The files are those of the program.
 //
-// A form is another arrangement. Of `tile` it is `now`, the program's own, or stages of rounds, as `r,h,c,a` (`run_stage`): those for level 0, and in
-// REST, without `r`, for the levels behind it, with so many rooms between them. `r` reads strips, `h` halves them, `c` cuts them, `a` adds their tiles;
-// a comma begins a stage, which has a thread of its own; an `f` in the first one has it fork and join threads for its strip, an `x` has two threads do
-// it in turn, a `k` at the end has each strip carry its tiles, a `!` gives the last stage a new thread. Of `plain` it is how many threads draw, and how
-// many rooms each has, as `32`; `lr,h` behind it reads and halves the texture in rounds. Rounds are proved to end: `take` looks a bounded number of times.
+// A form is another arrangement. Of `tile` it is `now`, the program's own, or stages of rounds, as `r,h,c,a`: those for level 0, and in REST, without
+// `r`, for the levels behind it, with so many rooms between them. `r` reads strips, `h` halves them, `c` cuts them, and `a` adds their tiles. A comma
+// begins a stage, which has a thread of its own. In the first one `f` has it fork and join threads for its strip, and `x` has two threads do it in
+// turn. Of the whole, `k` has each strip carry its tiles, and `!` gives the last stage a new thread. Of `plain` a form is how many threads draw, and how
+// many rooms each has, as `32`; `lr,h` behind it reads and halves the texture in rounds. Rounds end: `take` looks a bounded number of times.
 //
 // It takes what tests/measure/run.py makes: one byte a sample, the maximum 255, one flight along the columns, a tile side of 64.
 #include <arpa/inet.h>
@@ -23,7 +23,7 @@
 #include <string.h>
 #include <unistd.h>
 
-enum { THREADS = 4, ROWS = 128, SIDE = 64, TILE = 3 * SIDE * SIDE, GROUP_PIXELS = 1048576, THREAD_PIXELS = 100000, MOST_JOBS = 8 };
+enum { THREADS = 4, ROWS = 128, SIDE = 64, TILE = 3 * SIDE * SIDE, GROUP_PIXELS = 1048576, THREAD_PIXELS = 100000, MOST_JOBS = 8, WORTH = 200000 };
 
 typedef struct {
     void (*run)(void *);
@@ -365,7 +365,7 @@ static void tile_as_the_program(uint8_t *rows, uint8_t *front, uint8_t *back) {
 
 // Rounds: stages are forked and joined, and hand strips and rows of tiles on by queues with one thread at each end. A stage looks a bounded number
 // of times for what it needs, and then ends its part of the round. It keeps what it has, and goes on in the next round.
-enum { ROOMS = 8, SPINS = 200, YIELDS = 1000000, MOST_STAGES = 5, WORTH = 200000 };
+enum { ROOMS = 8, SPINS = 200, YIELDS = 1000000, MOST_STAGES = 5 };
 
 typedef struct {
     uint8_t *items[ROOMS];
