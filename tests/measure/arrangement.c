@@ -8,8 +8,8 @@
 // A form is another arrangement. Of `tile` it is `now`, the program's own, or stages of rounds, as `r,h,c,a`: those for level 0, and in REST, without
 // `r`, for the levels behind it, with so many rooms between them. `r` reads strips, `h` halves them, `c` cuts them, and `a` adds their tiles. A comma
 // begins a stage, which has a thread of its own. In the first one `f` has it fork and join threads for its strip, and `x` has two threads do it in
-// turn. Of the whole, `k` has each strip carry its tiles, and `!` gives the last stage a new thread. Of `plain` a form is how many threads draw, and how
-// many rooms each has, as `32`; `lr,h` behind it reads and halves the texture in rounds. Rounds end: `take` looks a bounded number of times.
+// turn. Of the whole, `k` has each strip carry its tiles, and `!` gives the last stage a new thread. Of `plain` a form is how many threads draw, and
+// how many rooms each has, as `32`; `lr,h` behind it reads and halves the texture in rounds. Rounds end: `take` looks a bounded number of times.
 //
 // It takes what tests/measure/run.py makes: one byte a sample, the maximum 255, one flight along the columns, a tile side of 64.
 #include <arpa/inet.h>
