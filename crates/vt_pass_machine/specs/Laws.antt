@@ -134,15 +134,15 @@ module _ {F T S P H R W B O M : Type 0} (g : FileMeanings F) (table : TableMeani
       IsReadyBy g table schedule (arc_value m.shared).parts.table (arc_value m.shared).parts.rows (arc_value m.shared).parts.queues x m.streams m.pool job.batch) detached.there ready
 
   has_loaded : AllDid (HasLoaded g (arc_value m.shared).parts.queues) a c
-  has_loaded = subst (λ (x : PassShared (OwnParts T S P H R W B O M)). AllDid (HasLoaded g x.parts.queues) a c) detached.shared did_load
+  has_loaded = subst (λ (x : PassShared (OwnParts H B T S P)). AllDid (HasLoaded g x.parts.queues) a c) detached.shared did_load
 
   have_drawn : AllDid (HasDrawn table schedule filter (arc_value m.shared).parts.table (arc_value m.shared).parts.rows job.scene.shape job.scene.depth job.scene.path job.picture
       job.scene.path.height (row_length job.scene.depth job.scene.path.width)) e f
-  have_drawn = subst (λ (x : PassShared (OwnParts T S P H R W B O M)). AllDid (HasDrawn table schedule filter x.parts.table x.parts.rows job.scene.shape job.scene.depth
+  have_drawn = subst (λ (x : PassShared (OwnParts H B T S P)). AllDid (HasDrawn table schedule filter x.parts.table x.parts.rows job.scene.shape job.scene.depth
       job.scene.path job.picture job.scene.path.height (row_length job.scene.depth job.scene.path.width)) e f) detached.shared did_draw
 
   has_fed : HasStreamed table (arc_value m.shared).parts.table (arc_value m.shared).parts.queues job.batch b d
-  has_fed = subst (λ (x : PassShared (OwnParts T S P H R W B O M)). HasStreamed table x.parts.table x.parts.queues job.batch b d) detached.shared did_stream
+  has_fed = subst (λ (x : PassShared (OwnParts H B T S P)). HasStreamed table x.parts.table x.parts.queues job.batch b d) detached.shared did_stream
 
   -- how the work began
   z : Begun F T S H R W B O M
@@ -155,7 +155,7 @@ module _ {F T S P H R W B O M : Type 0} (g : FileMeanings F) (table : TableMeani
   -- it leaves what may be moved back
   may_finish : MayFinish g table schedule filter (arc_value n.shared).parts.table (arc_value n.shared).parts.rows (arc_value n.shared).parts.queues n.streams n.pool job c f d z
   unfolding z
-  may_finish = subst (λ (x : PassShared (OwnParts T S P H R W B O M)). MayFinish g table schedule filter x.parts.table x.parts.rows x.parts.queues n.streams n.pool job c f d z)
+  may_finish = subst (λ (x : PassShared (OwnParts H B T S P)). MayFinish g table schedule filter x.parts.table x.parts.rows x.parts.queues n.streams n.pool job c f d z)
       (sym detached.shared) (record {
         stream = stream_back g (arc_value m.shared).parts.queues detached.was.answers b.answers d.answers m.streams n.streams job.batch detached.was.report d.report a c
             detached.loaders_out was_ready.asked number has_loaded has_fed.took has_fed.all has_fed.losses has_fed.answers;

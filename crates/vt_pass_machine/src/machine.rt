@@ -38,7 +38,7 @@ impl<F: File + Send, T: PageTable, S: Schedule, P: Filter> PassMachine for Machi
 
     type File = F;
 
-    type Shared = PassShared<OwnParts<T, S, P>>;
+    type Shared = PassShared<OwnParts<T::Shared, S::Shared, T, S, P>>;
 
     type Loader = QueuedLoader<F>;
 
@@ -258,8 +258,12 @@ impl<F: File + Send, T: PageTable, S: Schedule, P: Filter> PassMachine for Machi
     ghost has_answered = { λ job n p c f d r reattached. reattached.0 };
 }
 
-impl<F: File + Send, T: PageTable, S: Schedule, P: Filter + Send + Sync> SentMachine
-    for Machine<F, T, S, P>
+impl<
+    F: File + Send,
+    T: PageTable + Send + Sync,
+    S: Schedule + Send + Sync,
+    P: Filter + Send + Sync,
+> SentMachine for Machine<F, T, S, P>
 where
     T::Shared: Send + Sync,
     T::Reader: Send,

@@ -32,7 +32,9 @@ use vt_pass_pool::{
 };
 
 /// What the workers of a machine share. Hands own it too, since they outlive a pass.
-pub(crate) type MachineShared<T, S, P> = Arc<PassShared<OwnParts<T, S, P>>>;
+pub(crate) type MachineShared<T, S, P> = Arc<
+    PassShared<OwnParts<<T as PageTable>::Shared, <S as Schedule>::Shared, T, S, P>>,
+>;
 
 // What workers share of a page table, of rows and of queues, and what samplers with these readers work with.
 fn shared_and_pool<T: PageTable, S: Schedule, P: Filter>(
@@ -67,6 +69,8 @@ fn shared_and_pool<T: PageTable, S: Schedule, P: Filter>(
                 table,
                 rows,
                 queues,
+                kind: PhantomData,
+                schedule: PhantomData,
                 filter: PhantomData,
             },
         },

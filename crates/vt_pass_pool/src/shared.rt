@@ -41,15 +41,20 @@ pub trait InCommon {
         ensures { result.now ≡ queues self.now };
 }
 
-/// What a machine keeps of it.
+/// What a machine keeps of it. It names what is shared of the page table and of the rows by types of their own, `H` and `B`: else to give it up
+/// would ask that a page table's writer can be given up too, which none is.
 #[derive(Drop)]
-pub struct OwnParts<T: PageTable, S: Schedule, P: Filter> {
+pub struct OwnParts<H, B, T, S, P> {
     /// Of the page table.
-    pub table: T::Shared,
+    pub table: H,
     /// Of the rows.
-    pub rows: S::Shared,
+    pub rows: B,
     /// The queues of the requests and of the results.
     pub queues: Queues,
+    /// Which page table it is.
+    pub kind: PhantomData<T>,
+    /// How the samplers come by rows.
+    pub schedule: PhantomData<S>,
     /// The filter by which the samplers draw.
     pub filter: PhantomData<P>,
 }
@@ -67,7 +72,7 @@ pub struct LentParts<'a, T: PageTable, S: Schedule, P: Filter> {
     pub filter: PhantomData<P>,
 }
 
-impl<T: PageTable, S: Schedule, P: Filter> InCommon for OwnParts<T, S, P> {
+impl<T: PageTable, S: Schedule, P: Filter> InCommon for OwnParts<T::Shared, S::Shared, T, S, P> {
     type Table = T;
 
     type Rows = S;

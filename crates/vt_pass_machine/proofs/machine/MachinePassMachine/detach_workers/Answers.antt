@@ -16,7 +16,7 @@ detach-loaders-requires g c =
       asked = (
         own.report,
         batch,
-        subst (λ (x : PassShared (OwnParts _ _ _ _ _ _ _ _ _)).
+        subst (λ (x : PassShared (OwnParts _ _ _ _ _)).
             IsAskedStream g.F.File x.parts.queues own.answers own.report m.streams batch) (sym c.deref.ensures) ready.asked,
       );
     }
@@ -30,7 +30,7 @@ pub returns-clause-streamer : goal.returns-clause-streamer
 returns-clause-streamer g c =
     let m = c.args.self.now in
     let own = c.in-Some.own in
-    let out = subst (λ (x : PassShared (OwnParts _ _ _ _ _ _ _ _ _)). AreLoadersOut g.F.File x.parts.queues m.streams c.detach-loaders.new.self own.answers
+    let out = subst (λ (x : PassShared (OwnParts _ _ _ _ _)). AreLoadersOut g.F.File x.parts.queues m.streams c.detach-loaders.new.self own.answers
     c.detach-loaders.new.answers c.detach-loaders.result.elements) c.deref.ensures c.detach-loaders.ensures.out in
     streamer_may g.F.File g.T.PageTable g.S.Schedule m own (sym c.replace-own.ensures.value ∙ c.in-Some.is)
     (record own { answers = c.detach-loaders.new.answers }) c.args._batch.now.elements c.requires.ready refl out.dealt.passes.results
@@ -42,7 +42,7 @@ returns-clause-detached g c = record {
   was = c.in-Some.own;
   there = sym c.replace-own.ensures.value ∙ c.in-Some.is;
   streamer_is = refl;
-  loaders_out = subst (λ (x : PassShared (OwnParts _ _ _ _ _ _ _ _ _)). AreLoadersOut g.F.File x.parts.queues c.args.self.now.streams
+  loaders_out = subst (λ (x : PassShared (OwnParts _ _ _ _ _)). AreLoadersOut g.F.File x.parts.queues c.args.self.now.streams
       c.detach-loaders.new.self c.in-Some.own.answers c.detach-loaders.new.answers c.detach-loaders.result.elements) c.deref.ensures
       c.detach-loaders.ensures.out;
   samplers_are = c.detach-samplers.ensures.out;

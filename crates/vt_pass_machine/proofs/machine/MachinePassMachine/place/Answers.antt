@@ -7,7 +7,7 @@ use Rattle.vt_pass_machine.proofs.machine.MachinePassMachine.place.Goals as goal
 
 pub place_page-requires-clause-of : goal.place_page-requires-clause-of
 place_page-requires-clause-of g c =
-    subst (λ (x : PassShared (OwnParts _ _ _ _ _ _ _ _ _)). g.T.PageTable.is_of x.parts.table c.in-Some.own.writer) (sym c.deref.ensures)
+    subst (λ (x : PassShared (OwnParts _ _ _ _ _)). g.T.PageTable.is_of x.parts.table c.in-Some.own.writer) (sym c.deref.ensures)
     (idle_with g.F.File g.T.PageTable c.args.self.now c.in-Some.own c.in-Some.is c.requires.idle).fit.of
 
 pub place_page-requires-clause-page : goal.place_page-requires-clause-page
@@ -43,5 +43,5 @@ place_page-requires-clause-full g c =
 pub returns-clause-idle : goal.returns-clause-idle
 returns-clause-idle g c =
     machine_placed g.F.File g.T.PageTable c.args.self.now c.in-Some.own c.place_page.new.own c.args.page c.args.frame c.args.tile.now c.in-Some.is
-    c.requires.idle c.requires.may (subst (λ (x : PassShared (OwnParts _ _ _ _ _ _ _ _ _)).
+    c.requires.idle c.requires.may (subst (λ (x : PassShared (OwnParts _ _ _ _ _)).
     HasPlaced g.T.PageTable x.parts.table c.args.page c.args.tile.now c.in-Some.own c.place_page.new.own) c.deref.ensures c.place_page.ensures.placed)

@@ -10,7 +10,7 @@ pub end_pass-report-requires : goal.end_pass-report-requires
 end_pass-report-requires g c =
     let m = c.args.self.now in (
       c.requires.0,
-      subst (λ (x : PassShared (OwnParts _ _ _ _ _ _ _ _ _)). MayFinish g.F.File g.T.PageTable g.S.Schedule g.P.Filter x.parts.table x.parts.rows x.parts.queues
+      subst (λ (x : PassShared (OwnParts _ _ _ _ _)). MayFinish g.F.File g.T.PageTable g.S.Schedule g.P.Filter x.parts.table x.parts.rows x.parts.queues
           m.streams m.pool (job_of c.args.shot.now c.args.batch.now.elements) c.args.loaders.elements c.args.samplers.elements c.args.streamer c.requires.0)
           (sym c.deref.ensures) c.requires.1.may,
     )
@@ -23,7 +23,7 @@ returns g c =
     let job = job_of c.args.shot.now c.args.batch.now.elements in (
       e.refused,
       λ b out.
-          let may = subst (λ (x : PassShared (OwnParts _ _ _ _ _ _ _ _ _)). MayFinish g.F.File g.T.PageTable g.S.Schedule g.P.Filter x.parts.table
+          let may = subst (λ (x : PassShared (OwnParts _ _ _ _ _)). MayFinish g.F.File g.T.PageTable g.S.Schedule g.P.Filter x.parts.table
           x.parts.rows x.parts.queues m.streams m.pool job c.args.loaders.elements c.args.samplers.elements c.args.streamer b) (sym c.deref.ensures)
           out.may in
           let done = finished g.F.File g.T.PageTable g.S.Schedule g.P.Filter g.met.P.Filter.is_under parts.table parts.rows parts.queues m.streams
