@@ -82,11 +82,7 @@ fn are_lawful(geometry: &Geometry, settings: &Settings) -> bool
 }
 
 // Whether the walk of a case by a machine over the store of a folder succeeds.
-fn is_walked<
-    Rt: Abort + Threads + Wait + Sync,
-    M: SentMachine<File = MemoryFile>,
-    G: Gate + Sync,
->(
+fn is_walked<Rt: Abort + Threads + Wait + Sync, M: SentMachine<File = MemoryFile>, G: Gate + Sync>(
     rt: &Rt,
     alloc: Global,
     folder: &mut MemoryFolder,
@@ -128,11 +124,13 @@ fn has_journal(folder: &MemoryFolder, case: &Case<'_>) -> bool {
 }
 
 // Whether all comes of the walk of a case by a machine that is to come of it, in a folder of no names.
-fn comes<
-    Rt: Abort + Threads + Wait + Sync,
-    M: SentMachine<File = MemoryFile>,
-    G: Gate + Sync,
->(rt: &Rt, alloc: Global, folder: &mut MemoryFolder, case: &Case<'_>, gate: &G) -> bool {
+fn comes<Rt: Abort + Threads + Wait + Sync, M: SentMachine<File = MemoryFile>, G: Gate + Sync>(
+    rt: &Rt,
+    alloc: Global,
+    folder: &mut MemoryFolder,
+    case: &Case<'_>,
+    gate: &G,
+) -> bool {
     let laid = folder.add("s", &FOUR).is_ok() && folder.add("p", case.path).is_ok();
     let mut out = MemorySink::new(alloc, Fails::new(alloc));
     match parse_path(alloc, case.path) {
