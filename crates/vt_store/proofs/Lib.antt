@@ -10,6 +10,9 @@ pub mod StripTiles
 pub mod StripStores
 pub mod OneStep
 pub mod StripSteps
+pub mod ReadStrips
+pub mod RoundRows
+pub mod Rounds
 pub mod StripLevels
 pub mod Written
 mod LevelRows

@@ -11,9 +11,8 @@ use Rattle.vt_outside.specs.declared.answers.OutsideError.TheVariants as outside
 use Rattle.vt_outside.specs.declared.place.Place.{Place}
 use Rattle.vt_ppm.specs.declared.header.Header.{Header}
 use Rattle.vt_ppm.specs.Format.{depth_of}
-use Rattle.vt_ppm.specs.StripPlaces.{strip_rows, strips_of, StripsAsked, StripsTried}
-use Rattle.vt_ppm.specs.Strips.{RowsAsked, sample_rows, texture_of}
-use Rattle.vt_mip.specs.TakenRows.{HalvingView, HalvesFront}
+use Rattle.vt_ppm.specs.StripPlaces.{strip_rows, StripsAsked}
+use Rattle.vt_ppm.specs.Strips.{RowsAsked, sample_rows}
 use Rattle.vt_pages.specs.Shape.{Shape, shape_of}
 use Rattle.vt_pages.specs.Pages.{IsWithinLimits, columns_at, rows_at}
 use Rattle.vt_tiles.specs.declared.error.StoreError.{StoreError}
@@ -21,26 +20,14 @@ use Rattle.vt_tiles.specs.declared.error.StoreError.TheVariants.{Failed}
 use Rattle.vt_tiles.specs.Made.{HoldsMade, HoldsMadeFront}
 use Rattle.vt_tiles.specs.Refusals.{IsOutsideRefusal, refusal_by}
 use Rattle.vt_store.specs.StripStores.{strip_front, strip_tiles}
+use Rattle.vt_store.specs.Rounds.{StripsAdded, StripsRead}
 use Rattle.vt_store.specs.Steps.{AddsFront, AsksNoPlace, StepDone, StepStopped}
 use Rattle.vt_store.specs.StripSteps.{StripsState, KeepsStrips, KeepsStep, IsNextStrip, StripMade, StripLost, StripRead, ReadsStrip, IsStripThere, StripTried, StripStep, StripsDone, StripsStopped, AddsStrips, state_store}
 use Rattle.vt_store.proofs.StripStores.{store_made, made_moved, made_more, made_part, there_made}
-use Rattle.vt_ppm.proofs.StripPlaces.{more_strips, no_strips, strips_front, strip_tried}
-use Rattle.vt_store.proofs.StripLevels.{all_taken, strip_inside, strips_are, strip_low, next_taken}
+use Rattle.vt_store.proofs.StripLevels.{all_taken, strip_inside}
+use Rattle.vt_store.proofs.ReadStrips.{all_strips, high, read_front, read_more, read_next, read_none, read_tried, row_known, some_tile}
 use Rattle.vt_store.proofs.StripTiles.{IsStrip, is_strip}
 use Rattle.vt_store.proofs.WideStores.{rose_along}
-
--- nothing is lost where nothing was done
-pub keeps_none : (a : StripsState) → KeepsStrips a a
-keeps_none a = record { known = refl; called = refl; header = refl; tile = refl; faults = omega arith }
-
-pub keeps_on : (a b c : StripsState) → KeepsStrips a b → KeepsStrips b c → KeepsStrips a c
-keeps_on a b c p q = record {
-  known = q.known ∙ p.known;
-  called = q.called ∙ p.called;
-  header = q.header ∙ p.header;
-  tile = q.tile ∙ p.tile;
-  faults = omega (arith, p.faults, q.faults);
-}
 
 -- a folder, from one state to another
 abbrev pub between : FolderState → FolderState → FolderEffect
@@ -92,164 +79,120 @@ pub record IsAhead (s : Shape) (n : List ℕ) (i : ℕ) (a b : StripsState) (fol
   pub held : (before : Option Files) → HoldsMade a.known (strip_front s a.header 0) n before folder.before.files
       → HoldsMade a.known (strip_front s a.header (i * columns_at s 0)) n before folder.after.files
   pub tiles : (bytes : List ℕ) → a.known ≡ Some bytes → row ≡ strip_tiles s a.header i bytes
-  pub read : StripsAsked a.header s.tile (i + 1) a.places b.places
-  pub spare : rows_at s 0 ≤ b.spare + (i + 1)
-  pub kept : KeepsStrips a b
-  pub depth : b.half.depth ≡ a.half.depth
-  pub width : b.half.width ≡ a.half.width
-  pub height : b.half.height ≡ a.half.height
-  pub taken : b.half.taken ≡ min ((i + 1) * s.tile) a.header.height
-  pub halves : (bytes : List ℕ) → a.known ≡ Some bytes → HalvesFront (texture_of a.header bytes) a.half → HalvesFront (texture_of a.header bytes) b.half
+  pub strips : StripsRead s (i + 1) a b
   pub asks : AsksNoPlace folder
 
 module _ (s : Shape) (n : List ℕ) (a : StripsState) (first : IsNextStrip s 0 a) (limits : IsWithinLimits s) where
-  high : a.header.height ≡ s.height
-  high = ap (λ (z : Shape). z.height) first.shape
-
-  some_tile : 1 ≤ s.tile
-  some_tile = omega (arith, limits.least_tile)
-
-  all_strips : strips_of a.header s.tile ≡ rows_at s 0
-  all_strips = strips_are s a.header.height s.tile high refl
-
   -- a prefix of the store, as callers see it
-  seen : (before g : Option Files) → HoldsMadeFront a.known (store_made s a.header) n before g → HoldsMadeFront a.known (state_store a) n before g
+  pub seen : (before g : Option Files) → HoldsMadeFront a.known (store_made s a.header) n before g → HoldsMadeFront a.known (state_store a) n before g
   seen before g holds = subst (λ (z : Shape). HoldsMadeFront a.known (store_made z a.header) n before g) (sym first.shape) holds
 
-  -- the first strip was not read
-  pub first_lost : (b : StripsState) (f : FolderState) → StripLost s 0 a b → StripsStopped s n a b (between f f) Failed
-  first_lost b f lost = record {
-    part = λ before h. seen before f.files
-        (made_part a.known a.known s a.header a.header 0 n before f.files f.files refl refl (strip_inside s 0 limits.some_level first.inside)
-        (made_moved a.known s a.header n before f.files 0 (0 * columns_at s 0) (omega arith) h) (inl refl));
-    front_read = strip_tried a.header a.header s.tile 0 (0 * s.tile) (strip_rows a.header s.tile 0) a.places a.places b.places
-        (omega (arith, all_strips, first.inside)) (no_strips a.header s.tile a.places a.places refl) refl refl refl (inr lost.read);
-    failed = λ _ before h. inr lost.rose;
-    outside = tt;
-  }
-
-  -- it was made
-  pub ahead_begun : (b : StripsState) (f : FolderState) (tiles : List ℕ) → rows_at s 0 ≤ a.spare → StripMade s 0 a b tiles → KeepsStrips a b
-      → a.spare ≤ b.spare + 1 → IsAhead s n 0 a b (between f f) tiles
-  ahead_begun b f tiles enough made kept spare = record {
+  -- nothing was read and added
+  pub added_none : (f : FolderState) → rows_at s 0 ≤ a.spare → StripsAdded s n 0 a a (between f f)
+  added_none f enough = record {
+    strips = read_none s a first limits enough;
     held = λ before h. made_moved a.known s a.header n before f.files 0 (0 * columns_at s 0) (omega arith) h;
-    tiles = made.tiles;
-    read = more_strips a.header a.header s.tile 0 (0 * s.tile) (strip_rows a.header s.tile 0) a.places a.places b.places
-        (no_strips a.header s.tile a.places a.places refl) refl refl refl made.read;
-    spare = omega (arith, enough, spare);
-    kept = kept;
-    depth = made.depth;
-    width = made.width;
-    height = made.height;
-    taken = made.taken ∙ ap (λ (c : ℕ). c + strip_rows a.header s.tile 0) first.taken ∙ next_taken s a.header 0 high some_tile first.inside;
-    halves = made.halves;
     asks = asks_none f;
   }
+
+  module _ (i : ℕ) (b : StripsState) (f g : FolderState) (was : StripsAdded s n i a b (between f g)) where
+    -- the next strip was not read
+    pub next_lost : (c : StripsState) → i < rows_at s 0 → StripLost s i b c → StripsStopped s n a c (between f g) Failed
+    next_lost c inside lost = record {
+      part = λ before h. seen before g.files
+          (made_part a.known a.known s a.header a.header i n before g.files g.files refl refl (strip_inside s i limits.some_level inside)
+          (was.held before h) (inl refl));
+      front_read = read_tried s a first limits i b was.strips c inside (inr (inr lost.read));
+      failed = λ _ before h. inr (let up : Rose b.faults c.faults = lost.rose in omega (arith, up, was.strips.kept.faults));
+      outside = tt;
+    }
+
+    -- it was made
+    pub ahead_begun : (c : StripsState) (tiles : List ℕ) → i < rows_at s 0 → StripMade s i b c tiles → KeepsStrips b c → b.spare ≤ c.spare + 1
+        → IsAhead s n i a c (between f g) tiles
+    ahead_begun c tiles inside made kept spare = record {
+      held = was.held;
+      tiles = row_known s a first limits i b was.strips c tiles made;
+      strips = read_more s a first limits i b was.strips c tiles inside made kept spare;
+      asks = was.asks;
+    }
+
+    -- there is none
+    pub added_all : i ≡ rows_at s 0 → StripsDone s n a b (between f g)
+    added_all all = record {
+      whole = λ before begun. made_moved a.known s a.header n before g.files (i * columns_at s 0) (rows_at s 0 * columns_at s 0)
+          (ap (λ (x : ℕ). x * columns_at s 0) all) (was.held before begun);
+      all_read = subst (λ (x : ℕ). StripsAsked a.header s.tile x a.places b.places) (all ∙ sym (all_strips s a first limits)) was.strips.read;
+      halves = was.strips.halves;
+      all_taken = omega (
+        arith,
+        all_taken s (some_tile s a first limits),
+        ap (λ (x : ℕ). x * s.tile) all,
+        high s a first limits,
+        first.height,
+        was.strips.taken,
+      );
+      half_depth = was.strips.depth;
+      half_width = was.strips.width;
+      half_height = was.strips.height;
+    }
 
   module _ (i : ℕ) (b : StripsState) (f g : FolderState) (tiles : List ℕ) (ahead : IsAhead s n i a b (between f g) tiles) where
     -- the next strip may be made
     pub ahead_next : i + 1 < rows_at s 0 → IsNextStrip s (i + 1) b
-    ahead_next inside =
-        let low = strip_low s (i + 1) some_tile inside in
-        record {
-          shape = ap (λ (h : Header). shape_of h.width h.height b.tile) ahead.kept.header
-              ∙ ap (λ (t : ℕ). shape_of a.header.width a.header.height t) ahead.kept.tile ∙ first.shape;
-          inside = inside;
-          spare = omega (arith, inside, ahead.spare);
-          depth = ahead.depth ∙ first.depth ∙ ap (λ (h : Header). depth_of h.maximum) (sym ahead.kept.header);
-          width = ahead.width ∙ first.width ∙ ap (λ (h : Header). h.width) (sym ahead.kept.header);
-          height = ahead.height ∙ first.height ∙ ap (λ (h : Header). h.height) (sym ahead.kept.header);
-          taken = omega (arith, low, high, ahead.taken);
-        }
+    ahead_next inside = read_next s a first limits (i + 1) b ahead.strips inside
 
     -- the tiles that are made, where some of them were added
-    pub ahead_part : (p : ℕ) (h : Option Files) → i < rows_at s 0 → h ≡ option_map (with_appended n (take p tiles)) g.files
+    ahead_part : (p : ℕ) (h : Option Files) → h ≡ option_map (with_appended n (take p tiles)) g.files
         → (before : Option Files) → HoldsMade a.known (strip_front s a.header 0) n before f.files → HoldsMadeFront a.known (state_store a) n before h
-    ahead_part p h inside held before begun = seen before h
-        (made_part a.known a.known s a.header a.header i n before g.files h refl refl (strip_inside s i limits.some_level inside) (ahead.held before begun)
+    ahead_part p h held before begun = seen before h
+        (made_part a.known a.known s a.header a.header i n before g.files h refl refl
+        (strip_inside s i limits.some_level (omega (arith, ahead.strips.few))) (ahead.held before begun)
         (inr (record { more = tiles; part = p; held = held; same = ahead.tiles })))
 
     -- where all were added
-    ahead_added : (h : Option Files) → h ≡ option_map (with_appended n tiles) g.files → (before : Option Files)
-        → HoldsMade a.known (strip_front s a.header 0) n before f.files → HoldsMade a.known (strip_front s a.header ((i + 1) * columns_at s 0)) n before h
-    ahead_added h held before begun =
-        made_more a.known a.known s a.header a.header i n before g.files h refl refl (ahead.held before begun)
-        (record { more = tiles; held = held; same = ahead.tiles })
+    pub ahead_added : (h : FolderState) → h.files ≡ option_map (with_appended n tiles) g.files → AsksNoPlace (between g h)
+        → StripsAdded s n (i + 1) a b (between f h)
+    ahead_added h held asks = record {
+      strips = ahead.strips;
+      held = λ before begun. made_more a.known a.known s a.header a.header i n before g.files h.files refl refl (ahead.held before begun)
+          (record { more = tiles; held = held; same = ahead.tiles });
+      asks = asks_on f g h ahead.asks asks;
+    }
 
     -- one step more
     pub ahead_more : (c : StripsState) (h : FolderState) (next : List ℕ) → i + 1 < rows_at s 0
         → StepDone (StripMade s (i + 1) b c next) n tiles (between g h) → KeepsStep b c (between g h) → IsAhead s n (i + 1) a c (between f h) next
     ahead_more c h next inside done kept =
-        let e = ahead.kept.header in
-        let now = ahead_next inside in
-        let made = done.made in
-        record {
-          held = ahead_added h.files done.added;
-          tiles = λ bytes is. made.tiles bytes (ahead.kept.known ∙ is) ∙ ap (λ (z : Header). strip_tiles s z (i + 1) bytes) e;
-          read = more_strips a.header b.header s.tile (i + 1) ((i + 1) * s.tile) (strip_rows b.header s.tile (i + 1)) a.places b.places c.places
-              ahead.read e refl (ap (λ (z : Header). strip_rows z s.tile (i + 1)) e) made.read;
-          spare = omega (arith, ahead.spare, kept.spare);
-          kept = keeps_on a b c ahead.kept kept.strips;
-          depth = made.depth ∙ ahead.depth;
-          width = made.width ∙ ahead.width;
-          height = made.height ∙ ahead.height;
-          taken = made.taken ∙ ap (λ (x : ℕ). x + strip_rows b.header s.tile (i + 1)) now.taken
-              ∙ ap (λ (z : Header). (i + 1) * s.tile + strip_rows z s.tile (i + 1)) e
-              ∙ next_taken s a.header (i + 1) high some_tile inside;
-          halves = λ bytes is half.
-              let Half : Header → HalvingView → Type 0 = λ z v. HalvesFront (texture_of z bytes) v in
-              subst (λ (z : Header). Half z c.half) e
-              (made.halves bytes (ahead.kept.known ∙ is) (subst (λ (z : Header). Half z b.half) (sym e) (ahead.halves bytes is half)));
-          asks = asks_on f g h ahead.asks kept.asks;
-        }
+        ahead_begun (i + 1) b f h (ahead_added h done.added kept.asks) c next inside done.made kept.strips kept.spare
 
     -- a step was refused
     pub ahead_stopped : (c : StripsState) (h : FolderState) (e : StoreError) → i + 1 < rows_at s 0
         → StepStopped (StripTried s (i + 1) b c) (Rose b.faults c.faults) n tiles (between g h) e → StripsStopped s n a c (between f h) e
     ahead_stopped c h e inside stopped = record {
-      part = ahead_part stopped.part h.files (omega arith) stopped.held;
-      front_read = tried stopped.read;
-      failed = λ is before begun. rose_along f.faults g.faults h.faults a.faults b.faults c.faults ahead.asks.faults ahead.kept.faults
+      part = ahead_part stopped.part h.files stopped.held;
+      front_read = read_tried s a first limits (i + 1) b ahead.strips c inside stopped.read;
+      failed = λ is before begun. rose_along f.faults g.faults h.faults a.faults b.faults c.faults ahead.asks.faults ahead.strips.kept.faults
           (stopped.rose is (there_made a.known (strip_front s a.header (i * columns_at s 0)) n before g.files (ahead.held before begun)));
       outside = stopped.outside;
-    } where
-      few : i + 1 < strips_of a.header s.tile
-      few = omega (arith, all_strips, inside)
+    }
 
-      tried : StripTried s (i + 1) b c → StripsTried a.header s.tile a.places c.places
-      tried (inl same) = strips_front a.header s.tile (i + 1) a.places c.places (omega (arith, few)) (same ∙ ahead.read)
-      tried (inr one) = strip_tried a.header b.header s.tile (i + 1) ((i + 1) * s.tile) (strip_rows b.header s.tile (i + 1)) a.places b.places c.places
-          few ahead.read ahead.kept.header refl (ap (λ (z : Header). strip_rows z s.tile (i + 1)) ahead.kept.header) one
-
-    -- the last row of tiles was refused
-    pub last_refused : {T : Type 0} (h : FolderState) (e : OutsideError) (q : Result T StoreError) → i + 1 ≡ rows_at s 0
+    -- a row of tiles was refused
+    pub row_refused : {T : Type 0} (h : FolderState) (e : OutsideError) (q : Result T StoreError)
         → IsErrAnd q (λ x. x ≡ refusal_by e) → AddsFront n tiles (between g h) e → AddsStrips s n a b (between f h) q
-    last_refused h e (Ok x) all is adds = absurd is
-    last_refused h outside_error.Failed (Err x) all is adds = record {
-      part = ahead_part adds.part h.files (omega arith) adds.held;
-      front_read = strips_front a.header s.tile (i + 1) a.places b.places (omega (arith, all_strips, all)) ahead.read;
-      failed = λ _ before begun. rose_along f.faults g.faults h.faults a.faults b.faults b.faults ahead.asks.faults ahead.kept.faults
+    row_refused h e (Ok x) is adds = absurd is
+    row_refused h outside_error.Failed (Err x) is adds = record {
+      part = ahead_part adds.part h.files adds.held;
+      front_read = read_front s a first limits (i + 1) b ahead.strips;
+      failed = λ _ before begun. rose_along f.faults g.faults h.faults a.faults b.faults b.faults ahead.asks.faults ahead.strips.kept.faults
           (inl (adds.rose refl (there_made a.known (strip_front s a.header (i * columns_at s 0)) n before g.files (ahead.held before begun))));
       outside = subst IsOutsideRefusal (sym is) tt;
     }
-    last_refused h outside_error.NoMemory (Err x) all is adds = record {
-      part = ahead_part adds.part h.files (omega arith) adds.held;
-      front_read = strips_front a.header s.tile (i + 1) a.places b.places (omega (arith, all_strips, all)) ahead.read;
+    row_refused h outside_error.NoMemory (Err x) is adds = record {
+      part = ahead_part adds.part h.files adds.held;
+      front_read = read_front s a first limits (i + 1) b ahead.strips;
       failed = λ failed before begun. let no : ⊥ = cc in absurd no;
       outside = subst IsOutsideRefusal (sym is) tt;
-    }
-
-    -- it was added
-    pub last_added : (h : FolderState) → i + 1 ≡ rows_at s 0 → h.files ≡ option_map (with_appended n tiles) g.files → StripsDone s n a b (between f h)
-    last_added h all held = record {
-      whole = λ before begun. made_moved a.known s a.header n before h.files ((i + 1) * columns_at s 0) (rows_at s 0 * columns_at s 0)
-          (ap (λ (x : ℕ). x * columns_at s 0) all) (ahead_added h.files held before begun);
-      all_read = subst (λ (x : ℕ). StripsAsked a.header s.tile x a.places b.places) (all ∙ sym all_strips) ahead.read;
-      halves = ahead.halves;
-      all_taken = omega (arith, all_taken s some_tile, ap (λ (x : ℕ). x * s.tile) all, high, first.height, ahead.taken);
-      half_depth = ahead.depth;
-      half_width = ahead.width;
-      half_height = ahead.height;
     }
 
 -- a step in rooms that were lent

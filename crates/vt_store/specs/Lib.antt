@@ -4,3 +4,5 @@ pub mod Widening
 pub mod StripStores
 pub mod Steps
 pub mod StripSteps
+pub mod Rings
+pub mod Rounds

@@ -4,6 +4,8 @@
 
 mod laws;
 mod levels;
+mod ring;
+mod round;
 mod steps;
 mod strip;
 mod strips;

@@ -10,7 +10,7 @@ ghost use Rattle.vt_ppm.specs.Image.{ImageView};
 ghost use Rattle.vt_ppm.specs.Strips.{row_length};
 ghost use Rattle.vt_mip.specs.TakenRows.{HalvesFront};
 ghost use Rattle.vt_pages.specs.Shape.{shape_of};
-ghost use Rattle.vt_pages.specs.Pages.{columns_at, name_at, pages_of, rows_at};
+ghost use Rattle.vt_pages.specs.Pages.{IsWithinLimits, columns_at, name_at, pages_of, rows_at};
 ghost use Rattle.vt_tiles.specs.Format.{tile_length, tiles_bytes};
 ghost use Rattle.vt_tiles.specs.TileLines.{HasTileRows, tile_rows_length};
 ghost use Rattle.vt_store.specs.StripSteps.{IsNextStrip, IsStripThere, KeepsHalf, KeepsStrips, MakesStrip, ReadsRows, ReadsStrip, StripMade, StripRead, StripsState, rows_state, strips_state};
@@ -117,6 +117,16 @@ fn read_rows<Rt: Threads + Sync, F: File>(
         { chain.rows(y, count, rows) },
     );
     read
+}
+
+/// How many strips a texture is read in: one for each row of tiles of level 0.
+pub(crate) fn strip_count(geometry: &Geometry) -> u32
+    ensures count { result ≡ rows_at geometry.now 0 }
+    ensures some { 1 ≤ result }
+    ensures limits { IsWithinLimits geometry.now }
+{
+    let side = geometry.tile();
+    (geometry.height() + side - 1) / side
 }
 
 /// How many bytes the rows of a strip have.

@@ -1,21 +1,24 @@
 //! Writing the store of a texture that is read by strips, so that it is never in memory as a whole.
-ghost use Rattle.std.specs.Prelude.{◌≡◌, ℕ, ◌+◌, ◌*◌, ◌<◌, ◌≤◌, ◌⊎◌, List, Option, length, vec_len, IfOk, IfErr, OnOk, OnErr, IsErrOf};
+ghost use Rattle.std.specs.Prelude.{◌≡◌, ℕ, ◌+◌, ◌*◌, ◌<◌, ◌≤◌, ◌⊎◌, List, Option, length, vec_len, IfOk, IfErr, IfSome, OnOk, OnErr, IsErrOf};
 ghost use Rattle.vt_definitions.specs.Depths.{IsDepth, texel_length};
 ghost use Rattle.vt_outside.specs.Counts.{Rose};
 ghost use Rattle.vt_outside.specs.Effects.{folder_effect};
 ghost use Rattle.vt_ppm.specs.Format.{depth_of};
-ghost use Rattle.vt_pages.specs.Pages.{IsWithinLimits, columns_at, rows_at};
+ghost use Rattle.vt_pages.specs.Pages.{columns_at, rows_at};
 ghost use Rattle.vt_tiles.specs.Format.{tile_length};
 ghost use Rattle.vt_tiles.specs.Refusals.{IsOutsideRefusal};
 ghost use Rattle.vt_tiles.specs.Made.{HoldsMade, HoldsMadeFront};
 ghost use Rattle.vt_store.specs.StripStores.{IsStripRoom, strip_shape, strip_store};
 ghost use Rattle.vt_ppm.specs.StripPlaces.{StripsAsked, StripsTried, strips_of};
+ghost use Rattle.vt_store.specs.Rings.{AreNewRings};
 ghost use Rattle.vt_store.specs.Steps.{AsksNoPlace};
 ghost use Rattle.vt_store.specs.StripSteps.{AddsStrips, IsNextStrip, KeepsRows, KeepsStrips, WritesStore, rows_state, strips_state};
 
 use crate::levels::write_levels;
+use crate::ring::{Adding, Making, rings_for};
+use crate::round::write_by_round;
 use crate::steps::{add_row, tile_rooms, write_next};
-use crate::strip::make_strip;
+use crate::strip::{make_strip, strip_count};
 use crate::write::{begin_store, longest_row, threads_for_row};
 use std::alloc::Global;
 use std::thread::Threads;
@@ -26,19 +29,9 @@ use vt_pages::Geometry;
 use vt_threads::processors;
 use vt_tiles::StoreError;
 
-// How many strips a texture is read in: one for each row of tiles of level 0.
-fn strip_count(geometry: &Geometry) -> u32
-    ensures count { result ≡ rows_at geometry.now 0 }
-    ensures some { 1 ≤ result }
-    ensures limits { IsWithinLimits geometry.now }
-{
-    let side = geometry.tile();
-    (geometry.height() + side - 1) / side
-}
-
 // Adds the tiles of level 0 to the name, which holds the store's header, and makes level 1: each strip is read once, in order. Where
 // `back` has room for a second row of tiles, a strip's tiles are added while the next strip is read.
-fn write_first_level<Rt: Threads + Sync, F: File + Send, D: Folder>(
+fn write_by_steps<Rt: Threads + Sync, F: File + Send, D: Folder>(
     rt: &Rt,
     threads: usize,
     chain: &mut StripChain<F>,
@@ -91,21 +84,71 @@ fn write_first_level<Rt: Threads + Sync, F: File + Send, D: Folder>(
     Ok(())
 }
 
-// The room in which a texture is tiled by strips: for a strip's rows, for a row of tiles, for a second one or none, and for level 1.
+// Adds the tiles of level 0 to the name, which holds the store's header, and makes level 1: each strip is read once, in order. Where there are rings,
+// a round does it, or else steps.
+fn write_first_level<Rt: Threads + Sync, F: File + Send, D: Folder>(
+    rt: &Rt,
+    threads: usize,
+    chain: &mut StripChain<F>,
+    geometry: &Geometry,
+    rows: &mut [u8],
+    front: &mut Vec<u8>,
+    back: &mut Vec<u8>,
+    rings: Option<(Making, Adding)>,
+    half: &mut Halving,
+    folder: &mut D,
+    name: &str,
+) -> Result<(), StoreError>
+    requires threads { 1 ≤ threads }
+    requires first { IsNextStrip geometry.now 0 (strips_state F.File chain.old half.old) }
+    requires spare { rows_at geometry.now 0 ≤ F.spare chain.old.file }
+    requires rows { length rows.old ≡ geometry.now.tile * (texel_length (depth_of chain.old.header.maximum) * geometry.now.width) }
+    requires front { vec_len front.old ≡ columns_at geometry.now 0 * tile_length geometry.now (depth_of chain.old.header.maximum) }
+    requires back { (vec_len back.old ≡ 0) ⊎ (vec_len back.old ≡ vec_len front.old) }
+    requires rings { IfSome rings (λ ends. AreNewRings ends.0.rows ends.1.rows) }
+    ensures level { AddsStrips geometry.now name.now (strips_state F.File chain.old half.old) (strips_state F.File chain.new half.new)
+        (folder_effect D.Folder folder.old folder.new) result }
+    ensures kept { KeepsStrips (strips_state F.File chain.old half.old) (strips_state F.File chain.new half.new) }
+    ensures front { vec_len front.new ≡ vec_len front.old }
+    ensures asks { AsksNoPlace (folder_effect D.Folder folder.old folder.new) }
+{
+    match rings {
+        Some((mut making, mut adding)) => write_by_round(
+            rt,
+            threads,
+            chain,
+            geometry,
+            rows,
+            front,
+            &mut making,
+            &mut adding,
+            half,
+            folder,
+            name,
+        ),
+        None => write_by_steps(
+            rt, threads, chain, geometry, rows, front, back, half, folder, name,
+        ),
+    }
+}
+
+// The room in which a texture is tiled by strips: for a strip's rows, for a row of tiles, for a second one or none, with the rings of a round or
+// none, and for level 1.
 #[derive(Drop)]
 struct StripRoom {
     rows: Vec<u8>,
     front: Vec<u8>,
     back: Vec<u8>,
+    rings: Option<(Making, Adding)>,
     half: Halving,
 }
 
-// Makes this room for samples of `depth` bytes, 1 or 2, with a second row of tiles where two threads are at work.
+// Makes this room for samples of `depth` bytes, 1 or 2: with a second row of tiles where two threads are at work, and with rings where more are.
 fn make_room(
     alloc: Global,
     geometry: &Geometry,
     depth: u32,
-    beside: bool,
+    threads: usize,
 ) -> Result<StripRoom, NoMemory>
     requires { IsDepth depth }
     ensures { IfOk result (IsStripRoom geometry.now depth) }
@@ -113,12 +156,15 @@ fn make_room(
     let (width, height) = (geometry.width(), geometry.height());
     let row = texel_length(depth) * width as usize;
     let rows = vec![in alloc; 0; geometry.tile() as usize * row]?;
-    let (front, back) = tile_rooms(alloc, longest_row(geometry, depth), beside)?;
+    let length = longest_row(geometry, depth);
+    let (front, back) = tile_rooms(alloc, length, threads == 2)?;
+    let rings = rings_for(alloc, length, threads)?;
     let half = Halving::new(alloc, depth, width, height)?;
     Ok(StripRoom {
         rows,
         front,
         back,
+        rings,
         half,
     })
 }
@@ -146,6 +192,7 @@ fn write_in_room<Rt: Threads + Sync, F: File + Send, D: Folder>(
         mut rows,
         mut front,
         mut back,
+        rings,
         mut half,
     } = room;
     begin_store(geometry, chain.depth(), folder, name)?;
@@ -157,6 +204,7 @@ fn write_in_room<Rt: Threads + Sync, F: File + Send, D: Folder>(
         rows.as_mut_slice(),
         &mut front,
         &mut back,
+        rings,
         &mut half,
         folder,
         name,
@@ -179,8 +227,8 @@ fn write_in_room<Rt: Threads + Sync, F: File + Send, D: Folder>(
 /// the other.
 ///
 /// It reads the texture in strips of as many rows as a tile has, each once and in order, and keeps level 1 in memory. Where two
-/// processors are there and rows of tiles are long enough, one is added while the next strip is read: so a strip may be read before the
-/// tiles of the one above it stand. `Failed` comes only where the folder's count of faults rose or the file's, and `NoMemory` where memory
+/// processors are there and rows of tiles are long enough, one is added while strips below it are read: so up to three strips may be
+/// read before the tiles of the one above them stand. `Failed` comes only where the folder's count of faults rose or the file's, and `NoMemory` where memory
 /// was refused; then the name holds a front part of the store, or is as before where it was not created, and a prefix of the strips was
 /// read. No other refusal comes.
 pub fn write_strips<Rt: Threads + Sync, F: File + Send, D: Folder>(
@@ -212,7 +260,7 @@ pub fn write_strips<Rt: Threads + Sync, F: File + Send, D: Folder>(
     chain.reserve(u64::from(strip_count(geometry)))?;
     let available = processors(rt);
     let depth = chain.depth();
-    let beside = 1 < threads_for_row(available, longest_row(geometry, depth));
-    let room = make_room(alloc, geometry, depth, beside)?;
+    let threads = threads_for_row(available, longest_row(geometry, depth));
+    let room = make_room(alloc, geometry, depth, threads)?;
     write_in_room(rt, alloc, available, chain, geometry, room, folder, name)
 }

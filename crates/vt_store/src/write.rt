@@ -137,7 +137,9 @@ pub fn longest_row(geometry: &Geometry, depth: u32) -> usize
 
 /// How many threads are to make rows of tiles of so many bytes and to add them to a name, which one of them does: a byte takes one thread about two
 /// thirds of a nanosecond to make, and a third to add.
-pub(crate) fn threads_for_row(processors: usize, bytes: usize) -> usize {
+pub(crate) fn threads_for_row(processors: usize, bytes: usize) -> usize
+    ensures { 1 ≤ result }
+{
     threads_for(processors, bytes as u64)
 }
 

@@ -1,8 +1,8 @@
-use Rattle.std.proofs.Common.{◌+◌, ◌≤◌, inl, inr, refl, arith}
+use Rattle.std.proofs.Common.{inl, inr, refl, arith}
 use Rattle.vt_outside.specs.Effects.{folder_effect}
 use Rattle.vt_store.specs.StripSteps.{strips_state}
 use Rattle.vt_store.proofs.OneStep.{step_not_added, step_not_made}
-use Rattle.vt_store.proofs.StripSteps.{keeps_none}
+use Rattle.vt_store.proofs.ReadStrips.{keeps_none}
 use Rattle.vt_store.proofs.steps.step_in_turn.Goals as goal
 
 pub returns-in_err-add_row-clause-step : goal.returns-in_err-add_row-clause-step

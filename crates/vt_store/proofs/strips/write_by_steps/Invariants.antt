@@ -3,7 +3,7 @@ use Rattle.std.specs.Prelude.{vec_len}
 use Rattle.vt_outside.specs.Effects.{folder_effect}
 use Rattle.vt_store.specs.StripSteps.{strips_state}
 use Rattle.vt_store.proofs.StripSteps.{IsAhead}
-use Rattle.vt_store.proofs.strips.write_first_level.Given as goal
+use Rattle.vt_store.proofs.strips.write_by_steps.Given as goal
 
 abbrev pub invariant-loop-strip : goal.invariant-loop-strip
 invariant-loop-strip g l = record {
