@@ -315,6 +315,7 @@ pub(crate) fn write_by_round<Rt: Threads + Sync, F: File + Send, D: Folder>(
     ensures asks { AsksNoPlace (folder_effect D.Folder folder.old folder.new) }
 {
     let count = strip_count(geometry);
+    // One thread adds, and the others make.
     let done = write_round(
         rt,
         threads - 1,
