@@ -41,7 +41,7 @@ module _ {F P : Type 0} (g : FileMeanings F) (filter : FilterMeanings P) (words 
   machine t k r = record {
     shared = record {
       ptr = null_ptr;
-      value = record { parts = record { table = words; rows = rows; queues = q; filter = record {} } };
+      value = record { parts = record { table = words; rows = rows; queues = q; kind = record {}; schedule = record {}; filter = record {} } };
     };
     streamer = t;
     streams = k;
