@@ -12,8 +12,9 @@ use vt_pictures::Shot;
 /// A part of a pass that a loader or a sampler does, in the caller's thread or in another: it changes itself alone, and reads what it shares with the other
 /// workers, an `S`. It is told no batch, which goes to no hand.
 pub trait HandTask<S> {
-    /// Whether each of several samplers has a thread of its own, however small the picture is.
-    const ALONE: bool = false;
+    /// Whether several samplers have two threads at least, however small the picture is: where they share rows, one thread alone would be held up by
+    /// each slow row.
+    const IN_TWO: bool = false;
 
     /// It may begin, on what is shared and for the pass's job.
     ghost ready: { S → Job → Self → Type 0 };

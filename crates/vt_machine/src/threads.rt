@@ -4,7 +4,7 @@
 //! nanoseconds, and a tile in the system's cache is read in some 10 microseconds, but one that it has not may take milliseconds. So samplers share
 //! a thread where each would have few pixels, and a loader has one wherever there is a request for it.
 
-ghost use Rattle.std.specs.Prelude.{◌≡◌, ◌+◌, ◌*◌, ◌<◌, ◌≤◌, length};
+ghost use Rattle.std.specs.Prelude.{◌≡◌, ◌+◌, ◌*◌, ◌<◌, ◌≤◌, ◌⊎◌, length};
 
 use crate::crew::Crew;
 use crate::hand_task::HandTask;
@@ -18,27 +18,37 @@ const PIXELS: usize = 16_384;
 // For how many pixels a hand more pays.
 const HAND_PIXELS: usize = 4_096;
 
-/// In how many threads that are made for a pass its samplers are at work: one, and one more for each `PIXELS` of a picture.
-pub(crate) fn sampler_threads(path: &Path) -> usize
-    ensures some { 1 ≤ result }
-    ensures few { result * 16384 ≤ path.now.width * path.now.height + 16384 }
-    ensures all { path.now.width * path.now.height < result * 16384 }
+// How many pixels a picture has.
+fn pixels_of(path: &Path) -> usize
+    ensures { result ≡ path.now.width * path.now.height }
 {
-    let pixels = path.width() as usize * path.height() as usize;
-    1 + pixels / PIXELS
+    path.width() as usize * path.height() as usize
 }
 
-/// To how many hands samplers go: to one, and to one more for each `HAND_PIXELS` of a picture; or each to one, where each is to be alone.
+// So many threads, or two where samplers are to have two at least.
+fn for_samplers<S, M: HandTask<S>>(threads: usize) -> usize
+    ensures least { threads ≤ result }
+    ensures most { (result ≡ threads) ⊎ (result ≡ 2) }
+{
+    if M::IN_TWO && threads < 2 { 2 } else { threads }
+}
+
+/// In how many threads that are made for a pass its samplers are at work: in one, and one more for each `PIXELS` of a picture, or in two where that is
+/// one and they are to have two.
+pub(crate) fn sampler_threads<S, M: HandTask<S>>(path: &Path) -> usize
+    ensures some { 1 ≤ result }
+    ensures few { (result ≡ 2) ⊎ (result * 16384 ≤ path.now.width * path.now.height + 16384) }
+    ensures all { path.now.width * path.now.height < result * 16384 }
+{
+    for_samplers::<S, M>(1 + pixels_of(path) / PIXELS)
+}
+
+/// To how many hands samplers go: to one, and to one more for each `HAND_PIXELS` of a picture, or to two where that is one and they are to have two.
 pub(crate) fn sampler_hands<S, M: HandTask<S>>(samplers: usize, path: &Path) -> usize
     ensures { result ≤ samplers }
 {
-    let pixels = path.width() as usize * path.height() as usize;
-    let most = 1 + pixels / HAND_PIXELS;
-    if M::ALONE || samplers <= most {
-        samplers
-    } else {
-        most
-    }
+    let hands = for_samplers::<S, M>(1 + pixels_of(path) / HAND_PIXELS);
+    if samplers < hands { samplers } else { hands }
 }
 
 /// How many hands a walk by a machine of this kind has use for, with so many samplers and loaders.

@@ -42,7 +42,7 @@ pub fn work_together<
     if batch.is_empty() {
         load_and_stream(rt, loaders, streamer, shared, shot, batch, gate);
         draw_all(rt, samplers, shared, shot, batch, gate);
-    } else if samplers.len() == 1 || threads_of::<S, M>(samplers, shot) == 1 {
+    } else if samplers.len() == 1 || sampler_threads::<S, M>(shot.path) == 1 {
         draw_here(rt, loaders, samplers, streamer, shared, shot, batch, gate);
     } else {
         stream_here(rt, loaders, samplers, streamer, shared, shot, batch, gate);
@@ -192,16 +192,7 @@ fn load_and_stream<
     );
 }
 
-// In how many threads samplers are at work.
-fn threads_of<S: Sync, M: HandTask<S>>(samplers: &[M], shot: &Shot<'_>) -> usize {
-    if M::ALONE {
-        samplers.len()
-    } else {
-        sampler_threads(shot.path)
-    }
-}
-
-// All samplers, which share threads where the picture is small, unless each has one of its own.
+// All samplers, which share threads where the picture is small.
 fn draw_all<Rt: Threads + Wait + Sync, S: Sync, M: HandTask<S> + Send, G: Gate + Sync>(
     rt: &Rt,
     samplers: &mut [M],
@@ -213,7 +204,7 @@ fn draw_all<Rt: Threads + Wait + Sync, S: Sync, M: HandTask<S> + Send, G: Gate +
     requires { AllReady (M.ready shared.now (job_of shot.now batch.now)) samplers.old }
     ensures { AllDid (M.did shared.now (job_of shot.now batch.now)) samplers.old samplers.new }
 {
-    let threads = threads_of::<S, M>(samplers, shot);
+    let threads = sampler_threads::<S, M>(shot.path);
     work_all(rt, threads, samplers, shared, shot, batch, gate);
 }
 

@@ -15,7 +15,7 @@ use vt_pass_stream::stream_into;
 
 impl<C: InCommon> HandTask<PassShared<C>> for PassSampler<C::Table, C::Rows> {
     // Where samplers share rows, so that a sampler whose row is slow holds up no other.
-    const ALONE: bool = !<C::Rows as Schedule>::DEALT;
+    const IN_TWO: bool = !<C::Rows as Schedule>::DEALT;
 
     ghost ready = { λ shared job a. MayDraw C.Table.PageTable C.Rows.Schedule (C.InCommon.table shared.parts) (C.InCommon.rows shared.parts)
         job.scene.shape job.scene.depth job.scene.path job.picture a };

@@ -32,6 +32,7 @@ pub(crate) struct Stage {
 }
 
 impl Stage {
+    /// A stage that has not begun.
     pub(crate) fn new() -> Stage {
         Stage {
             has_begun: AtomicBool::new(false),
@@ -39,14 +40,17 @@ impl Stage {
         }
     }
 
+    /// Tells the other stage that this one has begun.
     pub(crate) fn begin(&self) {
         self.has_begun.store(true, SeqCst);
     }
 
+    /// Tells the other stage that this one makes or takes nothing more.
     pub(crate) fn end(&self) {
         self.has_ended.store(true, SeqCst);
     }
 
+    // Whether it has ended.
     fn is_over(&self) -> bool {
         self.has_ended.load(SeqCst)
     }
@@ -57,6 +61,7 @@ impl Stage {
     }
 }
 
+// Lets other threads work, after some looks with no pause to speak of. It never sleeps: what may sleep may wait without bound.
 fn pause(looks: u32) {
     if looks < SPINS {
         spin_loop();
