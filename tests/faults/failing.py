@@ -46,20 +46,21 @@ class Failing:
         self.program, self.limit = program, limit
         self.seen, self.reads = (os.path.join(scratch, "%s.%d" % (name, os.getpid())) for name in ("seen", "reads"))
         self.environment = dict(os.environ, LD_PRELOAD=library, FAULT_SEEN=self.seen, FAULT_READS=self.reads)
-        # How many allocations the program asked for in the last run in threads that it made.
-        self.grown = 0
-        # The processors that runs may use (all where there are none), and the most microseconds that files make a call wait.
-        self.processors, self.slow = None, 0
+        # Of the last run: how many allocations the program asked for in threads that it made, and how many writes of pictures met a read there.
+        self.grown, self.met = 0, 0
+        # The processors that runs may use (all where there are none), the most microseconds that files make a call wait, and the most milliseconds
+        # that a write of a picture waits for a read in a thread that the program made.
+        self.processors, self.slow, self.patience = None, 0, 0
 
     def run(self, words, kind, at):
         """What the command left, the number of its calls of the kind, and its reads. With 0 no call fails."""
         with open(self.reads, "w"):
             pass
         call, is_on, _ = KINDS[kind]
-        environment = dict(self.environment, FAULT_KIND=call, FAULT_AT=str(at), FAULT_ON=str(int(is_on)), FAULT_SLOW=str(self.slow))
+        environment = dict(self.environment, FAULT_KIND=call, FAULT_AT=str(at), FAULT_ON=str(int(is_on)), FAULT_SLOW=str(self.slow), FAULT_MEET=str(self.patience))
         left = self.ended([self.program, *words], environment)
         with open(self.seen) as seen, open(self.reads) as reads:
-            calls, self.grown = map(int, seen.read().split())
+            calls, self.grown, self.met = map(int, seen.read().split())
             return left, calls, [Read(line) for line in reads]
 
     def begin(self):

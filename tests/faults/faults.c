@@ -2,8 +2,9 @@
 // FAULT_KIND is alloc, open, seek, stat, read, late_read, write, thread, short_read, short_write, broken_read, broken_write (by a signal) or stop;
 // FAULT_AT counts from 1. With FAULT_ON each later call of the kind fails too. FAULT_SLOW is the most microseconds that a read, a write or an
 // open waits before it begins.
-// FAULT_SEEN names a file for two numbers: of the calls of the kind, and of the allocations that the program itself asked for in threads that it
-// made, but for one for each thread that these made. FAULT_READS names one for a line of each read: its place, its length, whether it failed, and the name of its file.
+// FAULT_MEET is the most milliseconds that a write to a picture waits, in the program's first thread, until a read begins in a thread that it made.
+// FAULT_SEEN names a file for three numbers: of the calls of the kind; of the allocations that the program itself asked for in threads that it
+// made, but for one for each thread that these made; and of the writes that met such a read. FAULT_READS names one for a line of each read: its place, its length, whether it failed, and the name of its file.
 #define _GNU_SOURCE
 #include <dlfcn.h>
 #include <errno.h>
@@ -21,7 +22,7 @@
 #include <time.h>
 #include <unistd.h>
 
-static int ready, seen, at, on, slow, grown;
+static int ready, seen, at, on, slow, grown, patience, met, reads_beside;
 // Whether the program made this thread, and whether its last allocation was counted among the grown.
 static __thread int is_made, is_counted;
 static uintptr_t text_begin, text_end;
@@ -38,6 +39,7 @@ static int hit(const char *name) {
         at = number_of("FAULT_AT");
         on = number_of("FAULT_ON");
         slow = number_of("FAULT_SLOW");
+        patience = number_of("FAULT_MEET");
         __atomic_store_n(&ready, 1, __ATOMIC_RELEASE);
     }
     if (!kind || strcmp(kind, name) != 0) return 0;
@@ -63,8 +65,8 @@ __attribute__((destructor)) static void tell(void) {
     if (!name) return;
     int (*real_open)(const char *, int, ...) = dlsym(RTLD_NEXT, "open");
     int file = real_open(name, O_WRONLY | O_CREAT | O_TRUNC, 0644);
-    char text[32];
-    int size = snprintf(text, sizeof text, "%d %d\n", seen, grown);
+    char text[48];
+    int size = snprintf(text, sizeof text, "%d %d %d\n", seen, grown, met);
     ssize_t (*real_write)(int, const void *, size_t) = dlsym(RTLD_NEXT, "write");
     if (real_write(file, text, size) < 0) return;
     close(file);
@@ -146,14 +148,22 @@ static void stop_or_wait(void) {
     wait_for(now.tv_nsec / 100 % slow);
 }
 
+// The name of a file, and how long it is.
+static ssize_t name_of(int file, char *name, size_t room) {
+    char link[64];
+    snprintf(link, sizeof link, "/proc/self/fd/%d", file);
+    ssize_t size = readlink(link, name, room - 1);
+    size = size < 0 ? 0 : size;
+    name[size] = 0;
+    return size;
+}
+
 static void note(int file, size_t length, int failed) {
     const char *name = getenv("FAULT_READS");
     if (!name) return;
-    char link[64], target[4096], text[4200];
-    snprintf(link, sizeof link, "/proc/self/fd/%d", file);
-    ssize_t size = readlink(link, target, sizeof target - 1);
-    target[size < 0 ? 0 : size] = 0;
-    size = snprintf(text, sizeof text, "%ld %zu %d %s\n", (long)syscall(SYS_lseek, file, 0, SEEK_CUR), length, failed, target);
+    char target[4096], text[4200];
+    name_of(file, target, sizeof target);
+    ssize_t size = snprintf(text, sizeof text, "%ld %zu %d %s\n", (long)syscall(SYS_lseek, file, 0, SEEK_CUR), length, failed, target);
     int (*real_open)(const char *, int, ...) = dlsym(RTLD_NEXT, "open");
     ssize_t (*real_write)(int, const void *, size_t) = dlsym(RTLD_NEXT, "write");
     int notes = real_open(name, O_WRONLY | O_CREAT | O_APPEND, 0644);
@@ -161,8 +171,22 @@ static void note(int file, size_t length, int failed) {
     close(notes);
 }
 
+static void meet(int file) {
+    char name[4096];
+    if (is_made || !patience || name_of(file, name, sizeof name) < 4 || strcmp(name + strlen(name) - 4, ".ppm") != 0) return;
+    int before = __atomic_load_n(&reads_beside, __ATOMIC_SEQ_CST);
+    for (int turn = 0; turn < 10 * patience; turn++) {
+        if (__atomic_load_n(&reads_beside, __ATOMIC_SEQ_CST) != before) {
+            met++;
+            return;
+        }
+        wait_for(100);
+    }
+}
+
 ssize_t read(int file, void *buffer, size_t n) {
     ssize_t (*real)(int, void *, size_t) = dlsym(RTLD_NEXT, "read");
+    if (is_made) __atomic_add_fetch(&reads_beside, 1, __ATOMIC_SEQ_CST);
     stop_or_wait();
     if (hit("broken_read")) {
         errno = EINTR;
@@ -181,6 +205,7 @@ ssize_t read(int file, void *buffer, size_t n) {
 ssize_t write(int file, const void *buffer, size_t n) {
     ssize_t (*real)(int, const void *, size_t) = dlsym(RTLD_NEXT, "write");
     stop_or_wait();
+    meet(file);
     if (hit("write")) {
         errno = EIO;
         return -1;

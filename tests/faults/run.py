@@ -13,6 +13,9 @@ closed, and over a file system that is full after so many bytes of a file.
 Each run is judged by ../judge.py: its status and error line have their cause, and what stands is what docs/FORMATS.md says of that status. A read that fails
 is told by its file and place, so that a page that a live walk loses gives status 0, and any other read that fails does not. A walk asks its store for nothing
 but what it is due to read, and for nothing twice, and in the threads of its crew it asks for no memory but what a new thread takes.
+
+With walks it also looks whether pictures are written while tiles of the next pass are read: files are slow then, and each write of a picture waits some
+time for such a read.
 """
 import argparse
 import os
@@ -243,6 +246,20 @@ class Worker:
         return job.words, kind, statuses, wrong
 
 
+def is_written_beside(program, scratch, limit):
+    """Whether a live walk writes a picture while its crew reads the tiles of the next pass."""
+    failing = Failing(program, scratch, limit)
+    failing.slow, failing.patience = 4000, 500
+    os.chdir(tempfile.mkdtemp(dir=scratch))
+    with open("a.path", "w") as file:
+        file.write("size 128 128\nfocal 64\nat 1792 0 204800 16384 0\nto 7 263936 0 204800 16384 0\n")
+    subprocess.run([program, "gen", "7", "1024", "1024", "t.ppm"], check=True)
+    subprocess.run([program, "tile", "t.ppm", "s.vts", "--tile", "16"], check=True, stdout=subprocess.DEVNULL)
+    words = "walk s.vts a.path f --journal w.txt --frames 256 --samplers 2 --loaders 1 --batch 16".split()
+    left = failing.run(words, "stop", 0)[0]
+    return left.status == 0 and failing.met > 0
+
+
 def begin(*arguments):
     global worker
     worker = Worker(*arguments)
@@ -271,6 +288,9 @@ def main():
     by_kind, wrong = {kind: Counter() for kind in kinds}, 0
     with tempfile.TemporaryDirectory() as scratch:
         Failing(os.path.abspath(options.program), scratch)
+        if "walk" in only and not is_written_beside(os.path.abspath(options.program), scratch, options.limit):
+            print("wrong: no picture is written while tiles of the next pass are read", flush=True)
+            wrong += 1
         with Pool(options.workers, begin, (os.path.abspath(options.program), scratch, options.limit)) as pool:
             for words, kind, statuses, found in pool.imap(try_all, tasks):
                 print("%s, %s: %s" % (" ".join(words), kind, counted(statuses) or "no such call"), flush=True)
