@@ -282,16 +282,17 @@ def main():
     parser.add_argument("--without", nargs="+", default=[])
     parser.add_argument("--limit", type=float, default=LIMIT)
     options, begun = parser.parse_args(), time.monotonic()
+    program = os.path.abspath(options.program)
     kinds = [*KINDS, *OUTPUTS, FULL_FILES]
     only, without = set(options.only or [job.words[0] for job in JOBS]), set(options.without)
     tasks = [(number, kind) for number, job in enumerate(JOBS) if only.intersection(job.words) and not without.intersection(job.words) for kind in kinds]
     by_kind, wrong, looks_beside = {kind: Counter() for kind in kinds}, 0, int("walk" in only)
     with tempfile.TemporaryDirectory() as scratch:
-        Failing(os.path.abspath(options.program), scratch)
-        if looks_beside and not is_written_beside(os.path.abspath(options.program), scratch, options.limit):
+        Failing(program, scratch)
+        if looks_beside and not is_written_beside(program, scratch, options.limit):
             print("wrong: no picture is written while tiles of the next pass are read", flush=True)
             wrong += 1
-        with Pool(options.workers, begin, (os.path.abspath(options.program), scratch, options.limit)) as pool:
+        with Pool(options.workers, begin, (program, scratch, options.limit)) as pool:
             for words, kind, statuses, found in pool.imap(try_all, tasks):
                 print("%s, %s: %s" % (" ".join(words), kind, counted(statuses) or "no such call"), flush=True)
                 by_kind[kind].update(statuses)
