@@ -114,7 +114,7 @@ impl<J: Work> Desks<J> {
         true
     }
 
-    /// Waits until the hand of each desk serves, for a fifth of a second at most. No clause says so.
+    /// Waits until the hand of each desk serves, for about a fifth of a second. No clause says so.
     pub fn await_hands<Rt: Wait>(&self, rt: &Rt) {
         for look in 0..LONGEST {
             if self.are_served() {

@@ -8,8 +8,7 @@ use vt_evict::Planned;
 use vt_outside::Gate;
 use vt_pictures::Shot;
 
-/// The part of a pass that its streamer does, in the thread of the pass's caller: it changes itself alone, and reads what it shares with the other
-/// workers, an `S`.
+/// The part of a pass that its streamer does: it changes itself alone, and reads what it shares with the other workers, an `S`.
 pub trait Task<S> {
     /// It may begin, on what is shared and for the pass's job.
     ghost ready: { S → Job → Self → Type 0 };

@@ -2,7 +2,7 @@
 //!
 //! A job for a hand of a crew costs some 10 microseconds of processor time, a thread that is made and joined 25 to 60. A pixel takes 4 to 5
 //! nanoseconds, and a tile in the system's cache is read in some 10 microseconds, but one that it has not may take milliseconds. So samplers share
-//! a thread where each would have few pixels, and a loader has one wherever there is a request for it.
+//! a thread where each would have few pixels, and loaders have a thread for each request where there are two requests or more.
 
 ghost use Rattle.std.specs.Prelude.{◌≡◌, ◌+◌, ◌*◌, ◌<◌, ◌≤◌, ◌⊎◌, length};
 

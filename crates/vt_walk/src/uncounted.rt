@@ -24,9 +24,9 @@ use vt_walk_decisions::{Names, SentMachine, Settings, WalkError};
 /// is opened once more for each loader, and the tiles of the pinned pages are read from the given one in the order of
 /// their indexes. Then the journal is created with its head. Each pass is run, and its text is added to the journal
 /// in one call. After a picture's last pass the picture is created and written in one call, and its line is put. The
-/// last line ends the walk, and all files are closed, also after a refusal. A large picture is written while the next
-/// one's first pass is run: what is written keeps this order, and after a refusal of the writing or of the line the
-/// tiles of that pass may have been asked for.
+/// last line ends the walk, and all files are closed, also after a refusal. A picture of 4,096 pixels or more is written
+/// while the next one's first pass is run: what is written keeps this order, and after a refusal of the writing or of
+/// the line the tiles of that pass may have been asked for.
 ///
 /// `TooFewFrames` comes exactly where there are fewer frames than pinned pages, `DoesNotFit` in a settled walk at the
 /// first picture that needs more unpinned pages at once than there is room for, after its first pass. `Failed` comes
