@@ -17,8 +17,7 @@ use Rattle.vt_residency.specs.declared.places.Place.{Place}
 use Rattle.vt_residency.specs.declared.residency.Info.{Info}
 use Rattle.vtex_c.specs.declared.cache.Cache.{Cache}
 use Rattle.vtex_c.specs.declared.shape.VtexShape.{VtexShape}
-use Rattle.vtex_c.specs.Statuses.{IsShapeRefused}
-use Rattle.vtex_c.specs.Shapes.{shape_in}
+use Rattle.vtex_c.specs.Shapes.{IsShapeRefused, shape_in}
 
 -- there is a residency before and after, and the two are related
 abbrev pub Between : (ResidencyView → ResidencyView → Type 0) → Option ResidencyView → Option ResidencyView → Type 0

@@ -1,4 +1,3 @@
-pub mod Statuses
 pub mod Shapes
 pub mod Stores
 pub mod Caches

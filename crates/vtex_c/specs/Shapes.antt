@@ -1,13 +1,12 @@
 -- Shapes of textures and names of pages as C gives them.
-use Rattle.std.specs.Prelude.{◌≡◌, ℕ, ◌<◌, Option, None, Some}
+use Rattle.std.specs.Prelude.{◌≡◌, ℕ, ◌<◌, Option, None, Some, IsSome}
 use Rattle.vt_pages.specs.Shape.{Shape, shape_of}
-use Rattle.vt_pages.specs.Pages.{IsPage, IsWithinLimits, levels_of, pages_of, name_at, index_of}
+use Rattle.vt_pages.specs.Pages.{IsPage, IsWithinLimits, levels_of, pages_of, name_at, index_of, refusal_of}
 use Rattle.vt_pages.specs.declared.PageName.{PageName}
 use Rattle.vt_residency.specs.Levels.{IsLevelOf}
 use Rattle.vt_residency.specs.declared.levels.Level.{Level}
 use Rattle.vtex_c.specs.declared.shape.VtexName.{VtexName}
 use Rattle.vtex_c.specs.declared.shape.VtexShape.{VtexShape}
-use Rattle.vtex_c.specs.Statuses.{IsShapeRefused}
 
 -- the shape of the three numbers
 abbrev pub shape_in : VtexShape → Shape
@@ -16,6 +15,10 @@ shape_in s = shape_of s.width s.height s.tile
 -- a geometry is that of the three numbers, which are within the limits
 abbrev pub IsGeometryIn : VtexShape → Shape → Type 0
 IsGeometryIn s g = (g ≡ shape_in s) × IsWithinLimits g
+
+-- the shape of the three numbers is refused
+abbrev pub IsShapeRefused : Shape → Type 0
+IsShapeRefused s = IsSome (refusal_of s)
 
 -- the name of a page
 abbrev pub name_in : VtexName → PageName

@@ -20,8 +20,7 @@ use Rattle.vtex_c.specs.declared.shape.VtexShape.{VtexShape}
 use Rattle.vtex_c.specs.declared.table.TablePlace.{TablePlace}
 use Rattle.vtex_c.specs.declared.table.VtexWaiting.{VtexWaiting}
 use Rattle.vtex_c.specs.declared.reader.ReaderPlace.{ReaderPlace}
-use Rattle.vtex_c.specs.Shapes.{shape_in}
-use Rattle.vtex_c.specs.Statuses.{IsShapeRefused}
+use Rattle.vtex_c.specs.Shapes.{IsShapeRefused, shape_in}
 
 -- there is an owner before and after, and the two are related
 abbrev pub Between : (OwnerView → OwnerView → Type 0) → Option OwnerView → Option OwnerView → Type 0

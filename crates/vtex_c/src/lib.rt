@@ -20,8 +20,7 @@ ghost use Rattle.vt_residency.specs.Tallies.{pixels_of, one_pixel};
 ghost use Rattle.vtex_c.specs.contracts.cache.Cache.{the_row};
 ghost use Rattle.vtex_c.specs.declared.cache.Cache.{Cache};
 ghost use Rattle.vtex_c.specs.Caches.{IsCacheOpened, IsPassedBy, AreCounts, AreListed, ArePages, IsListed, AreStates, IsSettledBy, AreChanges, IsLookedUp, IsLevelListed, IsInfoAnswer, IsClosed};
-ghost use Rattle.vtex_c.specs.Shapes.{shape_in, page_in, IsLevelAnswer, IsNamed, IsPageAnswer};
-ghost use Rattle.vtex_c.specs.Statuses.{IsShapeRefused};
+ghost use Rattle.vtex_c.specs.Shapes.{IsShapeRefused, shape_in, page_in, IsLevelAnswer, IsNamed, IsPageAnswer};
 ghost use Rattle.vtex_c.specs.Stores.{IsStoreOpened, IsTileFound};
 
 use cache::Cache;

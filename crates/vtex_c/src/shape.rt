@@ -4,8 +4,7 @@ ghost use Rattle.std.specs.Prelude.{◌≡◌, MatchOption};
 ghost use Rattle.std.specs.Bool.{MatchBool};
 ghost use Rattle.vt_pages.specs.Pages.{IsPage};
 ghost use Rattle.vt_pages.specs.Laws.{IsInside};
-ghost use Rattle.vtex_c.specs.Statuses.{IsShapeRefused};
-ghost use Rattle.vtex_c.specs.Shapes.{shape_in, name_in, IsGeometryIn};
+ghost use Rattle.vtex_c.specs.Shapes.{IsShapeRefused, shape_in, name_in, IsGeometryIn};
 
 use vt_pages::{Geometry, PageName};
 use vt_residency::level_at;
