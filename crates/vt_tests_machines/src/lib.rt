@@ -1,5 +1,5 @@
 //! The tests of the machines: of the bag of rows that samplers share, of the page cache whose table is published in two copies, and of walks by
-//! each machine. It holds nothing else, and nothing depends on it.
+//! the machines that no words ask for. It holds nothing else, and nothing depends on it.
 #![tactic(auto)]
 
 #[cfg(test)]

@@ -1,4 +1,4 @@
-//! Walks by each machine, over either page table, whose rows are dealt or shared, by either filter, over a store in memory.
+//! Walks by the machines that no words ask for, over a store in memory. Those that words ask for are tried with whole commands.
 
 ghost use Rattle.std.specs.Prelude.{◌≡◌, [], ◌∷◌, is_some};
 ghost use Rattle.std.specs.Bool.{OnTrue};
@@ -206,18 +206,6 @@ fn comes_by_any_crew<Rt: Abort + Threads + Wait + Sync, M: SentMachine<File = Me
     true
 }
 
-#[test]
-fn a_settled_picture_is_the_same_by_any_number_of_samplers(rt: HostRuntime) {
-    assert!(&rt; comes_by_any_crew::<HostRuntime, By<WordTable, Dealt, Nearest>>(&rt, rt.alloc()));
-    assert!(&rt; comes_by_any_crew::<HostRuntime, By<WordTable, Shared, Nearest>>(&rt, rt.alloc()));
-}
-
-#[test]
-fn a_settled_picture_is_the_same_over_a_swapped_table(rt: HostRuntime) {
-    assert!(&rt; comes_by_any_crew::<HostRuntime, By<SwapTable, Dealt, Nearest>>(&rt, rt.alloc()));
-    assert!(&rt; comes_by_any_crew::<HostRuntime, By<SwapTable, Shared, Nearest>>(&rt, rt.alloc()));
-}
-
 // The journal of the next walk.
 const ANY_ROWS: &[u8] =
     b"map 1 1 0 0 0\npass 1 picture 0 start 1\nrow 0 ? 1\nrow 1 ? 1\nrow 2 ? 1\nrow 3 ? 1\n";
@@ -263,17 +251,26 @@ fn outruns<Rt: Abort + Threads + Wait + Sync, M: SentMachine<File = MemoryFile>>
         && gate.came()
 }
 
+// Whether shared rows are drawn rightly by a machine, whoever draws them. Each test names one machine, once: a second call would take its proof 15
+// seconds.
+fn shares_rows<Rt: Abort + Threads + Wait + Sync, M: SentMachine<File = MemoryFile>>(
+    rt: &Rt,
+    alloc: Global,
+) -> bool {
+    comes_by_any_crew::<Rt, M>(rt, alloc) && outruns::<Rt, M>(rt, alloc)
+}
+
 #[test]
-fn a_sampler_draws_three_rows_while_another_waits(rt: HostRuntime) {
-    assert!(&rt; outruns::<HostRuntime, By<WordTable, Shared, Nearest>>(&rt, rt.alloc()));
-    assert!(&rt; outruns::<HostRuntime, By<SwapTable, Shared, Nearest>>(&rt, rt.alloc()));
+fn a_sampler_of_the_swapped_table_draws_three_rows_while_another_waits(rt: HostRuntime) {
+    assert!(&rt; shares_rows::<HostRuntime, By<SwapTable, Shared, Nearest>>(&rt, rt.alloc()));
 }
 
 const HEADER: &[u8] = b"P6\n128 128\n255\n";
 
-// All pixels are of the texel (1, 1), and a picture of so many is drawn by two threads.
-const ONE_TEXEL: Case<'_> = Case {
-    path: b"size 128 128\nfocal 1\nat 384 384 1 16384 0\n",
+// All pixels are the blend of the texels 0, 1, 4 and 5 with the weights 36864, 12288, 12288 and 4096, and a picture of so many is drawn by two
+// threads.
+const ONE_BLEND: Case<'_> = Case {
+    path: b"size 128 128\nfocal 1\nat 64 64 1 0 0\n",
     settings: Settings {
         crew: Crew {
             samplers: 2,
@@ -288,58 +285,35 @@ const ONE_TEXEL: Case<'_> = Case {
     picture: HEADER,
 };
 
-// All pixels are the blend of the texels 0, 1, 4 and 5 with the weights 36864, 12288, 12288 and 4096.
-const ONE_BLEND: Case<'_> = Case {
-    path: b"size 128 128\nfocal 1\nat 64 64 1 0 0\n",
-    ..ONE_TEXEL
-};
-
-// Whether the walk of a case by a machine shows so many pixels of these samples, and its second sampler begins a row while the first is at one.
-fn meets<Rt: Abort + Threads + Wait + Sync, M: SentMachine<File = MemoryFile>>(
+// Whether the walk of that case by a machine shows these pixels, and its second sampler begins a row while the first is at one.
+fn blends<Rt: Abort + Threads + Wait + Sync, M: SentMachine<File = MemoryFile>>(
     rt: &Rt,
     alloc: Global,
-    case: &Case<'_>,
-    sample: u8,
 ) -> bool {
     let gate = FirstAndLater::new(2);
     let mut folder = MemoryFolder::new(alloc, Fails::new(alloc));
-    let Ok(mut picture) = Vec::from_elem(alloc, sample, HEADER.len() + 128 * 128 * 3) else {
+    let Ok(mut picture) = Vec::from_elem(alloc, 1, HEADER.len() + 128 * 128 * 3) else {
         return false;
     };
     picture[..HEADER.len()].copy_from_slice(HEADER);
     let shown = Case {
         picture: picture.as_slice(),
-        ..*case
+        ..ONE_BLEND
     };
     comes::<Rt, M, FirstAndLater>(rt, alloc, &mut folder, &shown, &gate) && gate.came()
 }
 
 #[test]
-fn a_sampler_enters_the_swapped_table_while_another_has(rt: HostRuntime) {
-    assert!(&rt;
-        meets::<HostRuntime, By<SwapTable, Dealt, Nearest>>(&rt, rt.alloc(), &ONE_TEXEL, 5)
-    );
+fn a_sampler_blends_a_shared_row_while_another_does(rt: HostRuntime) {
+    assert!(&rt; blends::<HostRuntime, By<WordTable, Shared, Bilinear>>(&rt, rt.alloc()));
 }
 
 #[test]
-fn a_sampler_of_the_shared_words_draws_a_row_while_another_does(rt: HostRuntime) {
-    assert!(&rt;
-        meets::<HostRuntime, By<WordTable, Dealt, Nearest>>(&rt, rt.alloc(), &ONE_TEXEL, 5)
-    );
+fn a_sampler_of_the_swapped_table_blends_a_row_while_another_does(rt: HostRuntime) {
+    assert!(&rt; blends::<HostRuntime, By<SwapTable, Dealt, Bilinear>>(&rt, rt.alloc()));
 }
 
 #[test]
-fn a_sampler_blends_a_row_while_another_does(rt: HostRuntime) {
-    assert!(&rt;
-        meets::<HostRuntime, By<WordTable, Dealt, Bilinear>>(&rt, rt.alloc(), &ONE_BLEND, 1)
-    );
-    assert!(&rt;
-        meets::<HostRuntime, By<WordTable, Shared, Bilinear>>(&rt, rt.alloc(), &ONE_BLEND, 1)
-    );
-    assert!(&rt;
-        meets::<HostRuntime, By<SwapTable, Dealt, Bilinear>>(&rt, rt.alloc(), &ONE_BLEND, 1)
-    );
-    assert!(&rt;
-        meets::<HostRuntime, By<SwapTable, Shared, Bilinear>>(&rt, rt.alloc(), &ONE_BLEND, 1)
-    );
+fn a_sampler_of_the_swapped_table_blends_a_shared_row_while_another_does(rt: HostRuntime) {
+    assert!(&rt; blends::<HostRuntime, By<SwapTable, Shared, Bilinear>>(&rt, rt.alloc()));
 }

@@ -12,6 +12,7 @@ mod replay_rows;
 mod replays;
 mod rows;
 mod runs;
+mod samplers;
 mod stores;
 mod trials;
 mod walk_rows;

@@ -16,6 +16,8 @@ pub enum Meeting {
     /// The read of this number of the walk, from 0, waits until the row of this number was reached, and that row until this version was
     /// published.
     RowAndStream { read: u64, row: u64, version: u64 },
+    /// The first row that is reached waits until so many rows were, which are two or more.
+    FirstRow { rows: u64 },
 }
 
 /// A gate for a meeting, which notes what was reached.
@@ -75,6 +77,17 @@ impl Meetings {
         }
     }
 
+    // A row, where the first waits for later ones.
+    fn row_meets(&self, count: u64) {
+        let before = self.rows.fetch_add(1, Ordering::SeqCst);
+        if before.wrapping_add(1) == count {
+            reach(&self.first);
+        }
+        if before == 0 {
+            self.wait_for(&self.first);
+        }
+    }
+
     // A point, where a row and what is streamed meet.
     fn meets(&self, point: Point, read: u64, row: u64, version: u64) {
         match point {
@@ -104,7 +117,7 @@ impl Meetings {
     pub fn came(&self) -> bool {
         let reached = match self.meeting {
             Meeting::Nobody => true,
-            Meeting::Reads => was_reached(&self.first),
+            Meeting::Reads | Meeting::FirstRow { rows: _ } => was_reached(&self.first),
             Meeting::RowAndStream {
                 read: _,
                 row: _,
@@ -125,6 +138,11 @@ impl Gate for Meetings {
                 }
             }
             Meeting::RowAndStream { read, row, version } => self.meets(point, read, row, version),
+            Meeting::FirstRow { rows } => {
+                if let Point::Row { sampler: _, row: _ } = point {
+                    self.row_meets(rows);
+                }
+            }
         }
     }
 }

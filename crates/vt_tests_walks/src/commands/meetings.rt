@@ -13,8 +13,8 @@ use std::sync::Wait;
 use std::test::*;
 use std::thread::Threads;
 
-// A walk whose workers have this meeting leaves what its row says.
-fn meets(
+/// A walk whose workers have this meeting leaves what its row says.
+pub(super) fn meets(
     rt: &(impl Threads + Wait + Sync),
     alloc: Global,
     row: &Row<'_>,
@@ -25,8 +25,8 @@ fn meets(
     leaves_in(rt, alloc, row, &mut scene) && scene.gate.came()
 }
 
-// Each walk, whose workers have this meeting, leaves what its row says.
-fn meet_all(
+/// Each walk, whose workers have this meeting, leaves what its row says.
+pub(super) fn meet_all(
     rt: &(impl Abort + Threads + Wait + Sync),
     alloc: Global,
     rows: &[Row<'_>],
