@@ -13,7 +13,19 @@ use std::sync::Wait;
 use std::test::*;
 use std::thread::Threads;
 
-/// A walk whose workers have this meeting leaves what its row says.
+/// A walk over a scene, whose workers have this meeting, leaves what its row says.
+pub(super) fn meets_in(
+    rt: &(impl Threads + Wait + Sync),
+    alloc: Global,
+    row: &Row<'_>,
+    meeting: Meeting,
+    scene: &mut Scene,
+) -> bool {
+    scene.gate = Meetings::new(meeting);
+    leaves_in(rt, alloc, row, scene) && scene.gate.came()
+}
+
+/// A walk over an empty folder, whose workers have this meeting, leaves what its row says.
 pub(super) fn meets(
     rt: &(impl Threads + Wait + Sync),
     alloc: Global,
@@ -21,12 +33,11 @@ pub(super) fn meets(
     meeting: Meeting,
 ) -> bool {
     let mut scene = Scene::new(alloc);
-    scene.gate = Meetings::new(meeting);
-    leaves_in(rt, alloc, row, &mut scene) && scene.gate.came()
+    meets_in(rt, alloc, row, meeting, &mut scene)
 }
 
-/// Each walk, whose workers have this meeting, leaves what its row says.
-pub(super) fn meet_all(
+// Each walk, whose workers have this meeting, leaves what its row says.
+fn meet_all(
     rt: &(impl Abort + Threads + Wait + Sync),
     alloc: Global,
     rows: &[Row<'_>],
