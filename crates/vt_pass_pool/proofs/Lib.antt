@@ -9,3 +9,5 @@ mod Readying
 mod Rising
 mod Drawn
 mod Finishing
+mod Applying
+mod Lasting

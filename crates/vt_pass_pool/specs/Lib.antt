@@ -22,7 +22,7 @@ pub use Rattle.vt_pass_rows.specs.Scenes
 pub use Rattle.vt_pass_rows.specs.SchedulesTypes
 pub use Rattle.vt_pass_rows.specs.Shots
 pub use Rattle.vt_pass_rows.specs.declared as PassRowsTypes
-pub use Rattle.vt_pass_stream.specs.Streamed
+pub mod Streamed
 pub mod PassTasks
 pub mod Stills
 pub mod Placing

@@ -7,11 +7,11 @@ use Rattle.vt_pass_rows.specs.PlanTypes.batches.Planned.{Planned}
 use Rattle.vt_pass_rows.specs.Outcomes.{IsBatchFor}
 use Rattle.vt_load.specs.Queues.{queue_view_of, queue_splits_of, IsPassOfQueue}
 use Rattle.vt_load.specs.declared.queued.Queues.{Queues}
-use Rattle.vt_pass_stream.specs.BatchRounds.{result_events, AreLossesOf}
-use Rattle.vt_pass_stream.specs.TakenResults.{Streams}
-use Rattle.vt_pass_stream.specs.BlankReports.{IsBlank}
+use Rattle.vt_streaming.specs.BatchRounds.{result_events, AreLossesOf}
+use Rattle.vt_streaming.specs.TakenResults.{Streams}
+use Rattle.vt_streaming.specs.BlankReports.{IsBlank}
 use Rattle.vt_pass_rows.specs.PageTableTypes.table.PageTable.{Ghosts as TableMeanings}
-use Rattle.vt_pass_stream.specs.Streamed.{HasStreamedAll}
+use Rattle.vt_pass_pool.specs.Streamed.{HasStreamedAll}
 use Rattle.vt_pass_pool.specs.declared.shared.PassStreamer.{PassStreamer}
 
 -- the streamer may stream a batch: it is that of what is shared, its pass is one of the results, the batch is lawful for the newest version, and

@@ -6,7 +6,7 @@ ghost use Rattle.vt_load.specs.declared.queued.Queues.{Queues as Both};
 use std::marker::PhantomData;
 use vt_load::{Loaded, QueuePass, Queues};
 use vt_pass_rows::{Filter, Geometry, PageTable, Schedule};
-use vt_pass_stream::StreamReport;
+use vt_streaming::StreamReport;
 
 /// What the workers of a pass have in common, whether a machine keeps it or its caller lends it.
 pub trait InCommon {

@@ -6,12 +6,12 @@ ghost use Rattle.vt_pass_rows.specs.PassSamplers.{MayDraw, HasDrawn};
 ghost use Rattle.vt_pass_pool.specs.PassTasks.{MayStream, HasStreamed};
 
 use crate::shared::{InCommon, PassShared, PassStreamer};
+use crate::stream::stream_into;
 use std::sync::Wait;
 use std::thread::Threads;
 use vt_load::QueuedLoader;
 use vt_outside::{File, Gate};
 use vt_pass_rows::{HandTask, PassSampler, Planned, Schedule, Shot, Task};
-use vt_pass_stream::stream_into;
 
 impl<C: InCommon> HandTask<PassShared<C>> for PassSampler<C::Table, C::Rows> {
     // Where samplers share rows, so that a sampler whose row is slow holds up no other.

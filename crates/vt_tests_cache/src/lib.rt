@@ -1,8 +1,10 @@
-//! The tests of the crates that make the cache, from the journal and the counts of wanted pages to the loaders of tiles, and of crews of threads and
-//! passes by them.
+//! The tests of the crates that make the cache, from the journal and the counts of wanted pages to the loaders of tiles, of the cache whose page table
+//! is published in two copies, of the bag of rows that samplers share, and of crews of threads and passes by them.
 //! It holds nothing else, and nothing depends on it: a crate with tests is proved twice, and this one costs nothing beside them.
 #![tactic(auto)]
 
+#[cfg(test)]
+mod bag;
 #[cfg(test)]
 mod checks;
 #[cfg(test)]
@@ -21,5 +23,7 @@ mod load;
 mod queue;
 #[cfg(test)]
 mod sampler;
+#[cfg(test)]
+mod swap;
 #[cfg(test)]
 mod table;

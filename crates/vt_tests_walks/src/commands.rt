@@ -3,7 +3,6 @@
 mod files;
 mod filters;
 mod flights;
-mod gates;
 mod generate;
 mod large_walk;
 mod meetings;

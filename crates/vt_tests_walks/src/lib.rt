@@ -4,11 +4,15 @@
 #![tactic(auto)]
 
 #[cfg(test)]
+mod any_sampler;
+#[cfg(test)]
 mod cases;
 #[cfg(test)]
 mod commands;
 #[cfg(test)]
 mod fixtures;
+#[cfg(test)]
+mod gates;
 #[cfg(test)]
 mod pass;
 #[cfg(test)]

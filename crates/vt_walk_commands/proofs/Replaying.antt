@@ -14,13 +14,13 @@ use Rattle.vt_camera.specs.Paths.{PathView}
 use Rattle.vt_tiles.specs.StoreViews.{IsStore, IsStoreIfKnown}
 use Rattle.vt_walk.specs.JournalText.{Content as Journal}
 use Rattle.vt_command_inputs.specs.Effects.{FolderState, SinkState}
-use Rattle.vt_bilinear.specs.Expectations.{with_files, IsPart, FailsOnly, PutsText}
+use Rattle.vt_outside.specs.Expectations.{with_files, IsPart, FailsOnly, PutsText}
 use Rattle.vt_command_inputs.proofs.Writing.{part_whole}
-use Rattle.vt_bilinear.specs.Flaws.{IsFirstRefused}
+use Rattle.vt_replay.specs.Flaws.{IsFirstRefused}
 use Rattle.vt_tiles.specs.Places.{IsTilePlace}
-use Rattle.vt_bilinear.specs.Outcomes.{HoldsReplay, HoldsPart, StoppedReplay, LeavesReplay, IsStoreClosed}
-use Rattle.vt_bilinear.specs.ReplayTypes.error.ReplayError.{ReplayError}
-use Rattle.vt_bilinear.specs.ReplayTypes.error.ReplayError.TheVariants as replay
+use Rattle.vt_replay.specs.Outcomes.{HoldsReplay, HoldsPart, StoppedReplay, LeavesReplay, IsStoreClosed}
+use Rattle.vt_replay.specs.declared.error.ReplayError.{ReplayError}
+use Rattle.vt_replay.specs.declared.error.ReplayError.TheVariants as replay
 use Rattle.vt_command_words.specs.Replay.{ReplayText}
 use Rattle.vt_command_inputs.specs.Lines.{end_line}
 use Rattle.vt_command_inputs.specs.Inputs.{Input, StoreInput, PathInput, PagedStore, JournalInput, PathContent, PagedContent, TextContent, header_places}

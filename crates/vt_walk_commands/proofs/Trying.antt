@@ -27,7 +27,7 @@ use Rattle.vt_walk.proofs.Rounds.{each_fits}
 use Rattle.vt_walk.proofs.Wholeness.{fits_or_not}
 use Rattle.vt_command_words.specs.Trial.{TrialText}
 use Rattle.vt_command_inputs.specs.Effects.{FolderState, SinkState, SinkEffect, IsWithoutEffect}
-use Rattle.vt_bilinear.specs.Expectations.{FailsOnly, PutsText}
+use Rattle.vt_outside.specs.Expectations.{FailsOnly, PutsText}
 use Rattle.vt_command_inputs.specs.CommandSpecs.{Conflict, FlawedBeside, ManyTexels, FewFrames, LargePicture, IsRefusalBy, EndsBy}
 use Rattle.vt_command_inputs.specs.Refusals.{cause_of}
 use Rattle.vt_walk_commands.specs.commands.Trial.{trial_shape, trial_path, trial_settings, trial_setup, trial_line, trial_spec, IsTrial, IsFirstUnfit, ConflictsInTrial, IsWalkRefusal, IsTrialRefusal, Compares, TriesOut, beside}

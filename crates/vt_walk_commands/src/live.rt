@@ -13,9 +13,9 @@ ghost use Rattle.vt_walk.specs.Closing.{AreOtherNamesAsBefore};
 use std::alloc::Global;
 use std::sync::Wait;
 use std::thread::Threads;
-use vt_bilinear::WordMachine;
 use vt_camera::Path;
 use vt_outside::{Folder, Gate, Sink};
+use vt_pass_machines::WordMachine;
 use vt_tiles::Store;
 use vt_walk::{Names, PassMachine, Settings, WalkError, walk_with};
 

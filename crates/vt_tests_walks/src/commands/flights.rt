@@ -1,7 +1,7 @@
 // Walks whose journals are replayed.
-use super::gates::{Meeting, Meetings};
 use super::rows::{Held, PICTURES, Row, adds, stands_beside};
 use super::runs::{Scene, play};
+use crate::gates::{Meeting, Meetings};
 use crate::told::Told;
 use std::alloc::Global;
 use std::process::Abort;

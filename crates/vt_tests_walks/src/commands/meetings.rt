@@ -1,11 +1,11 @@
 // Walks whose workers meet at gates.
 use super::files::{G4_STORE, PICTURE};
 use super::flights::{Flight, fly_all};
-use super::gates::{Meeting, Meetings};
 use super::rows::Held::{All, Either};
 use super::rows::{Row, leaves_in};
 use super::runs::Scene;
 use super::walk_rows::{BATCH_OF_TWO, FAR, LOW, REUSED, REUSED_ROW, REUSED_TEXT, WITH_PAGE_0};
+use crate::gates::{Meeting, Meetings};
 use crate::told::Told;
 use std::alloc::Global;
 use std::process::Abort;

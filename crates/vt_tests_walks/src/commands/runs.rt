@@ -1,6 +1,6 @@
 // A run of the words of a command over a folder in memory.
 
-use super::gates::{Meeting, Meetings};
+use crate::gates::{Meeting, Meetings};
 use std::alloc::{AllocError, Global};
 use std::sync::Wait;
 use std::thread::Threads;

@@ -1,7 +1,7 @@
 // A live walk that loses a tile.
 use super::flights::{Flight, fly_all};
-use super::gates::Meeting;
 use super::walk_rows::LOST;
+use crate::gates::Meeting;
 use std::test::*;
 
 static FLIGHTS: [Flight<'static>; 1] = [LOST];

@@ -33,8 +33,8 @@ pub struct Walk<'a> {
     pub pictures: &'a [&'a [u8]],
 }
 
-// Opens the store of a folder, after its path, as the program does.
-fn open_after_path<D: Folder>(rt: &impl Abort, folder: &mut D, name: &str) -> Store<D::File>
+/// Opens the store of a folder, after its path, as the program does.
+pub fn open_after_path<D: Folder>(rt: &impl Abort, folder: &mut D, name: &str) -> Store<D::File>
     ensures bytes { D.File.bytes result.file ≡ bytes_at (D.files folder.new) name.now }
     ensures known_too { is_some (D.File.bytes result.file) ≡ is_some (D.files folder.new) }
     ensures opened { AreOpen 1 name.now (D.asked folder.new) (file_state D.File.File result.file ∷ []) }
@@ -46,8 +46,8 @@ fn open_after_path<D: Folder>(rt: &impl Abort, folder: &mut D, name: &str) -> St
     open_store(rt, folder, name)
 }
 
-// Whether settings are within their limits, for tiles of the side 2.
-fn are_lawful(geometry: &Geometry, settings: &Settings) -> bool
+/// Whether settings are within their limits, for tiles of the side 2.
+pub fn are_lawful(geometry: &Geometry, settings: &Settings) -> bool
     ensures { OnTrue result (AreSettings geometry.now settings.now) }
 {
     geometry.tile() == 2

@@ -7,15 +7,15 @@ use Rattle.vt_pages.specs.Shape.{Shape}
 use Rattle.vt_camera.specs.Paths.{PathView}
 use Rattle.vt_walk.specs.JournalText.{Content as Journal}
 use Rattle.vt_pictures.specs.Replays.{pixel_under}
-use Rattle.vt_bilinear.specs.Shown.{blend_under}
+use Rattle.vt_plain_bilinear.specs.Shown.{blend_under}
 use Rattle.vt_command_inputs.specs.Effects.{FolderEffect, CallEffect}
-use Rattle.vt_bilinear.specs.Expectations.{Expected, with_files, IsPart}
-use Rattle.vt_bilinear.specs.Flaws.{IsFirstRefused}
-use Rattle.vt_bilinear.specs.Outcomes.{IsReplayable}
-use Rattle.vt_bilinear.specs.Trying.{Under}
-use Rattle.vt_bilinear.specs.Replayed.{expected_replay, pictures_of}
-use Rattle.vt_bilinear.specs.ReplayTypes.error.ReplayError.{ReplayError}
-use Rattle.vt_bilinear.specs.ReplayTypes.error.ReplayError.TheVariants as replay
+use Rattle.vt_outside.specs.Expectations.{Expected, with_files, IsPart}
+use Rattle.vt_replay.specs.Flaws.{IsFirstRefused}
+use Rattle.vt_replay.specs.Outcomes.{IsReplayable}
+use Rattle.vt_replay.specs.Trying.{Under}
+use Rattle.vt_replay.specs.Replayed.{expected_replay, pictures_of}
+use Rattle.vt_replay.specs.declared.error.ReplayError.{ReplayError}
+use Rattle.vt_replay.specs.declared.error.ReplayError.TheVariants as replay
 use Rattle.vt_command_words.specs.Replay.{ReplayText}
 use Rattle.vt_command_words.specs.declared.filters.Filtering.{Filtering}
 use Rattle.vt_command_words.specs.declared.filters.Filtering.TheVariants.{Nearest, Bilinear}

@@ -4,21 +4,22 @@ ghost use Rattle.std.specs.Prelude.{◌≡◌, ◌⊎◌, ℕ, length, IfOk, IfE
 ghost use Rattle.vt_outside.specs.Counts.{Rose, added};
 ghost use Rattle.vt_command_inputs.specs.Effects.{call_effect, folder_effect};
 ghost use Rattle.vt_command_words.specs.Replay.{shown_replay};
-ghost use Rattle.vt_bilinear.specs.Flaws.{IsFirstRefused};
-ghost use Rattle.vt_bilinear.specs.Outcomes.{LeavesReplay, IsStoreClosed};
+ghost use Rattle.vt_replay.specs.Flaws.{IsFirstRefused};
+ghost use Rattle.vt_replay.specs.Outcomes.{LeavesReplay, IsStoreClosed};
 ghost use Rattle.vt_command_inputs.specs.Inputs.{JournalInput, TextContent};
 ghost use Rattle.vt_command_inputs.specs.Reads.{file_state, TookInput};
 ghost use Rattle.vt_command_inputs.specs.CommandSpecs.{EndsBy};
 ghost use Rattle.vt_walk_commands.specs.commands.Replay.{under_by, replay_spec, RefusedBeside, IsReplayAnswer, flaw_of_replay};
 
+use crate::blend_replay::replay_blend;
 use std::alloc::Global;
 use std::thread::Threads;
-use vt_bilinear::{ReplayError, replay_blend, replay_by};
 use vt_camera::Path;
 use vt_command_inputs::{Flaw, Refusal, open_store, put_end, read_journal, read_path, refusal_of};
 use vt_command_words::{Filtering, ReplayWords};
 use vt_outside::{Folder, OutsideError, Sink};
 use vt_pictures::Nearest;
+use vt_replay::{ReplayError, replay_by};
 use vt_tiles::Store;
 
 /// Reads the path, opens the store and reads the journal, writes each picture of the journal under its name, and puts

@@ -1,6 +1,6 @@
 use Rattle.std.proofs.Common.{length, sym, ap, ◌∙◌}
 use Rattle.std.specs.Prelude.{slice_get}
-use Rattle.vt_pass_stream.proofs.Refilled.{refilled}
+use Rattle.vt_streaming.proofs.Refilled.{refilled}
 use Rattle.vt_pass_pool.proofs.Readying.{dealt_pool}
 use Rattle.vt_pass_pool.proofs.pool.PassPool.deal.Goals as goal
 

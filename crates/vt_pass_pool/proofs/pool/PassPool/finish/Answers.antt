@@ -1,7 +1,7 @@
 use Rattle.std.proofs.Common.{◌≡◌, length, sym, ap, ◌∙◌, subst, arith}
 use Rattle.std.specs.Prelude.{All}
 use Rattle.std.specs.List.{refill}
-use Rattle.vt_pass_stream.proofs.Refilled.{refilled}
+use Rattle.vt_streaming.proofs.Refilled.{refilled}
 use Rattle.vt_pass_rows.specs.Scenes.{scene_of}
 use Rattle.vt_pass_rows.specs.SchedulesRows.{AreAllRows}
 use Rattle.vt_pass_pool.specs.Placing.{ArePlaced, all_kept, rows_kept, counted_by, lines_of}

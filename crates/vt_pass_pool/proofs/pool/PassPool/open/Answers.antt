@@ -1,6 +1,6 @@
 use Rattle.std.proofs.Common.{length, sym, ap, ◌∙◌, subst}
 use Rattle.std.specs.Prelude.{slice_get}
-use Rattle.vt_pass_stream.proofs.Refilled.{refilled}
+use Rattle.vt_streaming.proofs.Refilled.{refilled}
 use Rattle.vt_pass_pool.specs.Pools.{AreAtHome}
 use Rattle.vt_pass_pool.proofs.Readying.{ready_pool}
 use Rattle.vt_pass_pool.proofs.pool.PassPool.open.Goals as goal

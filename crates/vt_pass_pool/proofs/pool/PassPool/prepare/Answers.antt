@@ -1,5 +1,5 @@
 use Rattle.std.proofs.Common.{length, sym, ap, ◌∙◌, subst, arith}
-use Rattle.vt_pass_stream.proofs.Refilled.{refilled}
+use Rattle.vt_streaming.proofs.Refilled.{refilled}
 use Rattle.vt_pass_rows.specs.SchedulesRows.{AreRowsInPlace}
 use Rattle.vt_pass_pool.specs.Pools.{line_length}
 use Rattle.vt_pass_pool.proofs.Readying.{so_too, begun_pool}

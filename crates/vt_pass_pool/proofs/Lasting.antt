@@ -16,8 +16,8 @@ use Rattle.vt_streaming.specs.BatchRounds.{result_group, result_events}
 use Rattle.vt_streaming.specs.Applied.{IsApplied, AreApplied}
 use Rattle.vt_streaming.proofs.Applying.{so_of_all}
 use Rattle.vt_page_table.specs.declared.table.PageTable.{Ghosts as TableMeanings}
-use Rattle.vt_pass_stream.specs.Streamed.{area, IsFillOf, FillsOf, IsBroughtAs, HasApplied, HasStreamedAll}
-use Rattle.vt_pass_stream.proofs.Applying.{applied_at}
+use Rattle.vt_pass_pool.specs.Streamed.{area, IsFillOf, FillsOf, IsBroughtAs, HasApplied, HasStreamedAll}
+use Rattle.vt_pass_pool.proofs.Applying.{applied_at}
 
 -- fills of some results are fills of more
 fill_on : (d texels : ℕ) (batch : List Planned) (xs ys : List Loaded) (page : ℕ) (words : List ℕ) → ((x : Loaded) → Contains xs x → Contains ys x)

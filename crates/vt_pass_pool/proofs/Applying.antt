@@ -12,7 +12,7 @@ use Rattle.vt_streaming.specs.BatchRounds.{result_group, page_if}
 use Rattle.vt_streaming.specs.Applied.{IsAppliedAt}
 use Rattle.vt_page_table.specs.declared.table.PageTable.{Ghosts as TableMeanings}
 use Rattle.vt_page_table.specs.Fills.{AreTexelWords}
-use Rattle.vt_pass_stream.specs.Streamed.{area, IsFillOf, IsBroughtAs, HasApplied}
+use Rattle.vt_pass_pool.specs.Streamed.{area, IsFillOf, IsBroughtAs, HasApplied}
 
 module _ {T H R W : Type 0} (table : TableMeanings T H R W) (d : ℕ) (batch : List Planned) (x : Loaded) (v w : W) (none_later : table.later v v) where
   -- nothing was done

@@ -5,8 +5,8 @@ use Rattle.vt_journal.specs.Shape.{Shape}
 use Rattle.vt_page_table.specs.Format.{tile_length}
 use Rattle.vt_queue.specs.declared.items.Loaded.{Loaded}
 use Rattle.vt_streaming.proofs.Taking.{same}
-use Rattle.vt_pass_stream.proofs.Lasting.{all_streamed}
-use Rattle.vt_pass_stream.proofs.stream.stream_into.Goals as goal
+use Rattle.vt_pass_pool.proofs.Lasting.{all_streamed}
+use Rattle.vt_pass_pool.proofs.stream.stream_into.Goals as goal
 
 pub stream_results-requires : goal.stream_results-requires
 stream_results-requires g c =

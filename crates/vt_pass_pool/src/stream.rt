@@ -9,7 +9,7 @@ ghost use Rattle.vt_queue.specs.Queues.{queue_view_of, queue_splits_of, IsPassOf
 ghost use Rattle.vt_streaming.specs.BatchRounds.{result_events, AreLossesOf};
 ghost use Rattle.vt_streaming.specs.TakenResults.{Streams};
 ghost use Rattle.vt_streaming.specs.BlankReports.{IsBlank};
-ghost use Rattle.vt_pass_stream.specs.Streamed.{HasStreamedAll};
+ghost use Rattle.vt_pass_pool.specs.Streamed.{HasStreamedAll};
 
 use crate::tiles::TableTiles;
 use std::sync::Wait;

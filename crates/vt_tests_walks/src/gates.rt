@@ -1,4 +1,5 @@
-// Gates at which the workers of a walk meet.
+//! Gates at which the workers of a walk meet.
+
 use std::sync::atomic::{AtomicU64, Ordering};
 use std::thread;
 use vt_outside::{Gate, Point};

@@ -19,7 +19,7 @@ pub(crate) struct TableTiles<'a, T: PageTable> {
 impl<'a, T: PageTable> Target for TableTiles<'a, T> {
     ghost use Rattle.std.specs.Prelude.{ℕ, nat_eq};
     ghost use Rattle.vt_page_table.specs.Format.{tile_length};
-    ghost use Rattle.vt_pass_stream.specs.Streamed.{IsBroughtAs, TakesTiles};
+    ghost use Rattle.vt_pass_pool.specs.Streamed.{IsBroughtAs, TakesTiles};
 
     type Writer = T::Writer;
 

@@ -1,3 +1,0 @@
-pub use Rattle.vt_streaming.proofs.Refilled
-mod Applying
-mod Lasting

@@ -1,0 +1,262 @@
+//! Walks by the machines that no words ask for. Those that words ask for are tried with whole commands.
+
+use crate::any_sampler::{
+    BLENDED, BY_ONE, BY_SEVEN, BY_TWO, FOUR_ROWS, FOUR_ROWS_LOG, FOUR_ROWS_SHOWN, FOUR_ROWS_TOLD,
+    LARGE_LOG, has_one_and_three, of_one_colour,
+};
+use crate::fixtures::{FINE, FOUR, ONE_PICTURE};
+use crate::gates::{Meeting, Meetings};
+use crate::told::Told;
+use crate::walk::worked::{are_lawful, open_after_path};
+use std::alloc::Global;
+use std::process::Abort;
+use std::sync::Wait;
+use std::thread::Threads;
+use vt_camera::{Path, parse_path};
+use vt_machine::{Crew, SentMachine};
+use vt_outside::{Fails, MemoryFile, MemoryFolder, MemorySink};
+use vt_pass_machines::{Bilinear, Dealt, Machine, Nearest, Shared, SwapTable, WordTable};
+use vt_walk::{Names, Settings, walk_with};
+
+// A walk over the store of four pages and a root, and what is to come of it.
+#[derive(Clone, Copy)]
+struct Case<'a> {
+    path: &'a [u8],
+    settings: Settings,
+    settled: bool,
+    log: &'a [u8],
+    picture: &'a [u8],
+    // Its journal, or none, and that is not looked at.
+    journal: Option<Told<'a>>,
+}
+
+// The machine over a page table, a schedule and a filter.
+type By<T, S, P> = Machine<MemoryFile, T, S, P>;
+
+// Whether a walk by a machine over the store of a folder succeeds.
+fn is_walked<Rt: Abort + Threads + Wait + Sync, M: SentMachine<File = MemoryFile>>(
+    rt: &Rt,
+    alloc: Global,
+    folder: &mut MemoryFolder,
+    path: &Path,
+    case: &Case<'_>,
+    out: &mut MemorySink,
+    gate: &Meetings,
+) -> bool {
+    let names = Names {
+        store: "s",
+        prefix: "f",
+        journal: "j",
+    };
+    let store = open_after_path(rt, folder, names.store);
+    let lawful = are_lawful(&store.geometry(), &case.settings);
+    assert!(rt; lawful);
+    walk_with::<Rt, M, MemoryFolder, MemorySink, Meetings>(
+        rt,
+        alloc,
+        folder,
+        store,
+        path,
+        &names,
+        &case.settings,
+        case.settled,
+        out,
+        gate,
+    )
+    .is_ok()
+}
+
+// Whether the folder of a walk has the journal that is to come of a case.
+fn has_journal(folder: &MemoryFolder, case: &Case<'_>) -> bool {
+    match (case.journal, folder.bytes_of("j")) {
+        (None, _) => true,
+        (Some(told), Some(bytes)) => told.is(bytes),
+        (Some(_), None) => false,
+    }
+}
+
+// Whether all comes of the walk of a case by a machine, whose workers have this meeting, that is to come of it, in a folder of no names.
+fn comes<Rt: Abort + Threads + Wait + Sync, M: SentMachine<File = MemoryFile>>(
+    rt: &Rt,
+    alloc: Global,
+    folder: &mut MemoryFolder,
+    case: &Case<'_>,
+    meeting: Meeting,
+) -> bool {
+    let laid = folder.add("s", &FOUR).is_ok() && folder.add("p", case.path).is_ok();
+    let gate = Meetings::new(meeting);
+    let mut out = MemorySink::new(alloc, Fails::new(alloc));
+    match parse_path(alloc, case.path) {
+        Ok(path) => {
+            laid && is_walked::<Rt, M>(rt, alloc, folder, &path, case, &mut out, &gate)
+                && gate.came()
+                && out.bytes() == case.log
+                && has_journal(folder, case)
+                && folder.holds("f0000.ppm", case.picture)
+        }
+        Err(_) => false,
+    }
+}
+
+const SETTINGS: Settings = Settings {
+    frames: 3,
+    pinned: 1,
+    crew: Crew {
+        samplers: 1,
+        loaders: 1,
+        batch: 1,
+    },
+};
+
+const OF_ONE: Case<'_> = Case {
+    path: ONE_PICTURE,
+    settings: SETTINGS,
+    settled: true,
+    log: b"picture 0 passes 4 wanted 2 loaded 2 lost 0 evicted 0\nend pictures 1 reads 3\n",
+    picture: FINE,
+    journal: Some(BY_ONE),
+};
+
+static CREWS: [Case<'_>; 3] = [
+    OF_ONE,
+    Case {
+        settings: Settings {
+            crew: Crew {
+                samplers: 2,
+                loaders: 1,
+                batch: 1,
+            },
+            ..SETTINGS
+        },
+        journal: Some(BY_TWO),
+        ..OF_ONE
+    },
+    Case {
+        settings: Settings {
+            crew: Crew {
+                samplers: 7,
+                loaders: 3,
+                batch: 1,
+            },
+            ..SETTINGS
+        },
+        journal: Some(BY_SEVEN),
+        ..OF_ONE
+    },
+];
+
+// Whether all comes of each crew's walk by a machine.
+fn comes_by_any_crew<Rt: Abort + Threads + Wait + Sync, M: SentMachine<File = MemoryFile>>(
+    rt: &Rt,
+    alloc: Global,
+) -> bool {
+    for i in 0..CREWS.len() {
+        let mut folder = MemoryFolder::new(alloc, Fails::new(alloc));
+        if !comes::<Rt, M>(rt, alloc, &mut folder, &CREWS[i], Meeting::Nobody) {
+            return false;
+        }
+    }
+    true
+}
+
+static BY_EITHER: Case<'_> = Case {
+    path: FOUR_ROWS,
+    settings: Settings {
+        frames: 1,
+        crew: Crew {
+            samplers: 2,
+            loaders: 1,
+            batch: 64,
+        },
+        ..SETTINGS
+    },
+    settled: false,
+    log: FOUR_ROWS_LOG,
+    picture: FOUR_ROWS_SHOWN,
+    journal: Some(FOUR_ROWS_TOLD),
+};
+
+// Whether a sampler of a machine draws three rows of a picture while another waits in the first that was reached.
+fn outruns<Rt: Abort + Threads + Wait + Sync, M: SentMachine<File = MemoryFile>>(
+    rt: &Rt,
+    alloc: Global,
+) -> bool {
+    let mut folder = MemoryFolder::new(alloc, Fails::new(alloc));
+    comes::<Rt, M>(
+        rt,
+        alloc,
+        &mut folder,
+        &BY_EITHER,
+        Meeting::FirstRow { rows: 4 },
+    ) && match folder.bytes_of("j") {
+        Some(journal) => has_one_and_three(journal),
+        None => false,
+    }
+}
+
+// Whether shared rows are drawn rightly by a machine, whoever draws them. Each test names one machine, once: a second call would take its proof 15
+// seconds.
+fn shares_rows<Rt: Abort + Threads + Wait + Sync, M: SentMachine<File = MemoryFile>>(
+    rt: &Rt,
+    alloc: Global,
+) -> bool {
+    comes_by_any_crew::<Rt, M>(rt, alloc) && outruns::<Rt, M>(rt, alloc)
+}
+
+#[test]
+fn a_sampler_of_the_swapped_table_draws_three_rows_while_another_waits(rt: HostRuntime) {
+    assert!(&rt; shares_rows::<HostRuntime, By<SwapTable, Shared, Nearest>>(&rt, rt.alloc()));
+}
+
+static ONE_BLEND: Case<'_> = Case {
+    path: BLENDED,
+    settings: Settings {
+        crew: Crew {
+            samplers: 2,
+            loaders: 1,
+            batch: 64,
+        },
+        ..SETTINGS
+    },
+    settled: true,
+    log: LARGE_LOG,
+    picture: b"",
+    journal: None,
+};
+
+// Whether the walk of that case by a machine shows the blend, and its second sampler begins a row while the first is at one.
+fn blends<Rt: Abort + Threads + Wait + Sync, M: SentMachine<File = MemoryFile>>(
+    rt: &Rt,
+    alloc: Global,
+) -> bool {
+    let mut folder = MemoryFolder::new(alloc, Fails::new(alloc));
+    let Some(picture) = of_one_colour(alloc, 1) else {
+        return false;
+    };
+    let shown = Case {
+        picture: picture.as_slice(),
+        ..ONE_BLEND
+    };
+    comes::<Rt, M>(
+        rt,
+        alloc,
+        &mut folder,
+        &shown,
+        Meeting::FirstRow { rows: 2 },
+    )
+}
+
+#[test]
+fn a_sampler_blends_a_shared_row_while_another_does(rt: HostRuntime) {
+    assert!(&rt; blends::<HostRuntime, By<WordTable, Shared, Bilinear>>(&rt, rt.alloc()));
+}
+
+#[test]
+fn a_sampler_of_the_swapped_table_blends_a_row_while_another_does(rt: HostRuntime) {
+    assert!(&rt; blends::<HostRuntime, By<SwapTable, Dealt, Bilinear>>(&rt, rt.alloc()));
+}
+
+#[test]
+fn a_sampler_of_the_swapped_table_blends_a_shared_row_while_another_does(rt: HostRuntime) {
+    assert!(&rt; blends::<HostRuntime, By<SwapTable, Shared, Bilinear>>(&rt, rt.alloc()));
+}
