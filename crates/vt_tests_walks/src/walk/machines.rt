@@ -1,4 +1,5 @@
-//! Walks by the machines that no words ask for. Those that words ask for are tried with whole commands.
+//! Walks by two machines that no words ask for. The four that words ask for are tried with whole commands. With these, each table is tried with each
+//! schedule and each filter, and each schedule with each filter.
 
 use crate::any_sampler::{
     BLENDED, BY_ONE, BY_SEVEN, BY_TWO, FOUR_ROWS, FOUR_ROWS_LOG, FOUR_ROWS_SHOWN, FOUR_ROWS_TOLD,
@@ -15,7 +16,7 @@ use std::thread::Threads;
 use vt_camera::{Path, parse_path};
 use vt_machine::{Crew, SentMachine};
 use vt_outside::{Fails, MemoryFile, MemoryFolder, MemorySink};
-use vt_pass_machines::{Bilinear, Dealt, Machine, Nearest, Shared, SwapTable, WordTable};
+use vt_pass_machines::{Bilinear, Machine, Nearest, Shared, SwapTable};
 use vt_walk::{Names, Settings, walk_with};
 
 // A walk over the store of four pages and a root, and what is to come of it.
@@ -35,8 +36,8 @@ struct ToldCase<'a> {
     told: Told<'a>,
 }
 
-// The machine over a page table, a schedule and a filter.
-type By<T, S, P> = Machine<MemoryFile, T, S, P>;
+// The machine over the swapped table and shared rows, by a filter.
+type By<P> = Machine<MemoryFile, SwapTable, Shared, P>;
 
 // Whether a walk by a machine over the store of a folder succeeds.
 fn is_walked<Rt: Abort + Threads + Wait + Sync, M: SentMachine<File = MemoryFile>>(
@@ -220,7 +221,7 @@ fn shares_rows<Rt: Abort + Threads + Wait + Sync, M: SentMachine<File = MemoryFi
 
 #[test]
 fn a_sampler_of_the_swapped_table_draws_three_rows_while_another_waits(rt: HostRuntime) {
-    assert!(&rt; shares_rows::<HostRuntime, By<SwapTable, Shared, Nearest>>(&rt, rt.alloc()));
+    assert!(&rt; shares_rows::<HostRuntime, By<Nearest>>(&rt, rt.alloc()));
 }
 
 static ONE_BLEND: Case<'_> = Case {
@@ -261,16 +262,6 @@ fn blends<Rt: Abort + Threads + Wait + Sync, M: SentMachine<File = MemoryFile>>(
 }
 
 #[test]
-fn a_sampler_blends_a_shared_row_while_another_does(rt: HostRuntime) {
-    assert!(&rt; blends::<HostRuntime, By<WordTable, Shared, Bilinear>>(&rt, rt.alloc()));
-}
-
-#[test]
-fn a_sampler_of_the_swapped_table_blends_a_row_while_another_does(rt: HostRuntime) {
-    assert!(&rt; blends::<HostRuntime, By<SwapTable, Dealt, Bilinear>>(&rt, rt.alloc()));
-}
-
-#[test]
 fn a_sampler_of_the_swapped_table_blends_a_shared_row_while_another_does(rt: HostRuntime) {
-    assert!(&rt; blends::<HostRuntime, By<SwapTable, Shared, Bilinear>>(&rt, rt.alloc()));
+    assert!(&rt; blends::<HostRuntime, By<Bilinear>>(&rt, rt.alloc()));
 }
