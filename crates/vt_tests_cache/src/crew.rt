@@ -83,6 +83,30 @@ impl<'a> Errand<Meeting<'a>> for Rounds<'a> {
     }
 }
 
+// The jobs that are to find so many begun in time.
+fn meetings(alloc: Global, others: u64, begun: &AtomicU64) -> Result<Vec<Meeting<'_>>, AllocError> {
+    let mut jobs = Vec::new(alloc);
+    for _ in 0..JOBS {
+        jobs.push(Meeting {
+            times: 0,
+            others,
+            begun,
+            is_late: false,
+        })?;
+    }
+    Ok(jobs)
+}
+
+// Whether each job was done twice and in time.
+fn have_met(jobs: &[Meeting<'_>]) -> bool {
+    for job in jobs {
+        if job.times != 2 || job.is_late {
+            return false;
+        }
+    }
+    true
+}
+
 // Whether the jobs of two rounds by so many hands were each done twice, and each found so many begun in time.
 fn are_done<Rt: Threads + Wait + Sync>(
     rt: &Rt,
@@ -92,23 +116,10 @@ fn are_done<Rt: Threads + Wait + Sync>(
 ) -> Result<bool, AllocError> {
     let begun = AtomicU64::new(0);
     let mut rounds = Rounds {
-        jobs: Vec::new(alloc),
+        jobs: meetings(alloc, others, &begun)?,
     };
-    for _ in 0..JOBS {
-        rounds.jobs.push(Meeting {
-            times: 0,
-            others,
-            begun: &begun,
-            is_late: false,
-        })?;
-    }
     run_with_crew(rt, alloc, hands, &mut rounds);
-    for job in rounds.jobs.as_slice() {
-        if job.times != 2 || job.is_late {
-            return Ok(false);
-        }
-    }
-    Ok(begun.load(SeqCst) == 2 * JOBS)
+    Ok(have_met(rounds.jobs.as_slice()) && begun.load(SeqCst) == 2 * JOBS)
 }
 
 #[test]
@@ -154,26 +165,37 @@ impl<'a> Errand<Small<'a>> for SmallRounds<'a> {
     }
 }
 
+// The small jobs, with the shares from 1 on.
+fn small_jobs(alloc: Global, sum: &AtomicU64) -> Result<Vec<Small<'_>>, AllocError> {
+    let mut jobs = Vec::new(alloc);
+    for share in 0..SMALL_JOBS {
+        jobs.push(Small {
+            times: 0,
+            share: share + 1,
+            sum,
+        })?;
+    }
+    Ok(jobs)
+}
+
+// Whether each small job was done once in each round.
+fn were_done_in_all(jobs: &[Small<'_>]) -> bool {
+    for job in jobs {
+        if job.times != SMALL_ROUNDS {
+            return false;
+        }
+    }
+    true
+}
+
 // Whether each small job was done once in each round by two hands and their caller, and the sum is that of all shares.
 fn are_small_done<Rt: Threads + Wait + Sync>(rt: &Rt, alloc: Global) -> Result<bool, AllocError> {
     let sum = AtomicU64::new(0);
     let mut rounds = SmallRounds {
-        jobs: Vec::new(alloc),
+        jobs: small_jobs(alloc, &sum)?,
     };
-    for share in 0..SMALL_JOBS {
-        rounds.jobs.push(Small {
-            times: 0,
-            share: share + 1,
-            sum: &sum,
-        })?;
-    }
     run_with_crew(rt, alloc, 2, &mut rounds);
-    for job in rounds.jobs.as_slice() {
-        if job.times != SMALL_ROUNDS {
-            return Ok(false);
-        }
-    }
-    Ok(sum.load(SeqCst) == SMALL_ROUNDS * (1 + 2 + 3))
+    Ok(were_done_in_all(rounds.jobs.as_slice()) && sum.load(SeqCst) == SMALL_ROUNDS * (1 + 2 + 3))
 }
 
 #[test]

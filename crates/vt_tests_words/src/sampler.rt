@@ -1,9 +1,9 @@
 //! One thread draws pictures of a texture of 4x4 texels, whose texel (x, y) is 4y+x in each channel, while another maps and unmaps its pages.
 
-ghost use Rattle.std.specs.Prelude.{◌≡◌, ◌<◌, length, true, false, IfSome};
+ghost use Rattle.std.specs.Prelude.{◌≡◌, ◌<◌, length, true, false, IfOk, IfSome};
 ghost use Rattle.vt_grace.specs.Tokens.{IsPassOf};
 ghost use Rattle.vt_grace.specs.WriterViews.{is_out};
-ghost use Rattle.vt_sampler.specs.Samplers.{IsOwn};
+ghost use Rattle.vt_sampler.specs.Samplers.{IsFor, IsOwn};
 ghost use Rattle.vt_tests_words.specs.SmallStreams.{IsSmallStreamer, MayDrawSmall};
 
 use crate::streamer::patient::{comes_in, goes_out};
@@ -14,7 +14,7 @@ use vt_camera::{Path, parse_path};
 use vt_draw::Shot;
 use vt_grace::{Pass, Words};
 use vt_journal::{Change, Journal};
-use vt_outside::OpenGate;
+use vt_outside::{NoMemory, OpenGate};
 use vt_pages::Geometry;
 use vt_sampler::Sampler;
 use vt_streamer::Streamer;
@@ -213,6 +213,41 @@ fn rooted_pass(words: &Words, streamer: &mut Streamer) -> Option<Pass>
     Some(streamer.give_pass(words, 0))
 }
 
+// Maps the root to frame 0, and gives the pass of sampler 0 then.
+fn first_pass(words: &Words, streamer: &mut Streamer) -> Option<Pass>
+    requires small { IsSmallStreamer words.now 3 streamer.old }
+    requires samplers { words.now.sizes.samplers ≡ 1 }
+    requires none_out { is_out streamer.old.writer 0 ≡ false }
+    ensures small { IsSmallStreamer words.now 3 streamer.new }
+    ensures of { IfSome result (λ pass. IsPassOf words.now pass) }
+    ensures rooted { IfSome result (λ pass. pass.view.rooted ≡ true) }
+    ensures own { IfSome result (λ pass. pass.view.sampler ≡ 0) }
+{
+    if !comes_in(words, streamer, 4, 0, &TILES[4]) {
+        return None;
+    }
+    rooted_pass(words, streamer)
+}
+
+// A sampler that draws all rows, and room for what it draws.
+fn sampler_and_room(
+    alloc: Global,
+    geometry: &Geometry,
+    path: &Path,
+) -> Result<(Sampler, Vec<Drawn>), NoMemory>
+    ensures for_it { IfOk result (λ made. IsFor made.0 geometry.now path.now 1) }
+    ensures sampler { IfOk result (λ made. made.0.sampler ≡ 0) }
+    ensures samplers { IfOk result (λ made. made.0.samplers ≡ 1) }
+{
+    let blank = Drawn {
+        picture: 0,
+        version: 0,
+        bytes: [0; 6],
+    };
+    let rows = Vec::from_elem(alloc, blank, 4 * ROUNDS)?;
+    Ok((Sampler::new(alloc, 0, 1, path, geometry, 1)?, rows))
+}
+
 // Whether all pictures that were drawn beside are those of the journal, in a table of three frames with the root in frame 0.
 fn is_true_beside<R: Threads + Sync>(
     rt: &R,
@@ -228,21 +263,10 @@ fn is_true_beside<R: Threads + Sync>(
     requires shape { streamer.shape ≡ geometry.now }
     requires pictures { length path.now.cameras ≡ 4 }
 {
-    let blank = Drawn {
-        picture: 0,
-        version: 0,
-        bytes: [0; 6],
-    };
-    let Ok(rows) = Vec::from_elem(alloc, blank, 4 * ROUNDS) else {
+    let Ok((sampler, rows)) = sampler_and_room(alloc, geometry, path) else {
         return false;
     };
-    let Ok(sampler) = Sampler::new(alloc, 0, 1, path, geometry, 1) else {
-        return false;
-    };
-    if !comes_in(words, &mut streamer, 4, 0, &TILES[4]) {
-        return false;
-    }
-    let Some(pass) = rooted_pass(words, &mut streamer) else {
+    let Some(pass) = first_pass(words, &mut streamer) else {
         return false;
     };
     let (mut streamer, is_done, pass, rows) = run_both(

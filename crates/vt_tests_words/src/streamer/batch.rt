@@ -244,20 +244,21 @@ fn is_true<Rt: Threads + Wait>(
     alloc: Global,
     words: &Words,
     streamer: &mut Streamer,
-    report: &mut StreamReport,
 ) -> bool
     requires small { IsSmallStreamer words.now 4 streamer.old }
     requires samplers { words.now.sizes.samplers ≡ 1 }
     requires none_out { is_out streamer.old.writer 0 ≡ false }
-    requires report { IsBlank 3 report.old }
 {
+    let Ok(mut report) = blank_report(alloc) else {
+        return false;
+    };
     let pass = streamer.give_pass(words, 0);
     let _root = mapped(words, streamer, 4, 4, 0, &OTHER_TILE);
     let _first = mapped(words, streamer, 4, 0, 1, &OTHER_TILE);
-    let is_done = is_streamed(rt, alloc, words, streamer, report);
+    let is_done = is_streamed(rt, alloc, words, streamer, &mut report);
     let (pass, is_so) = is_seen(words, pass);
     streamer.take_back(words, pass);
-    is_done && is_so && is_told(report) && has_changes(streamer.journal(), &CHANGES)
+    is_done && is_so && is_told(&report) && has_changes(streamer.journal(), &CHANGES)
 }
 
 // Whether it is so in a table of 4 frames.
@@ -271,10 +272,7 @@ fn is_right<Rt: Threads + Wait>(rt: &Rt, alloc: Global) -> bool {
     let Ok((words, mut streamer)) = small_streamer(alloc, &geometry, 4) else {
         return false;
     };
-    let Ok(mut report) = blank_report(alloc) else {
-        return false;
-    };
-    is_true(rt, alloc, &words, &mut streamer, &mut report)
+    is_true(rt, alloc, &words, &mut streamer)
 }
 
 #[test]

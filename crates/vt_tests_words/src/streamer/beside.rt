@@ -173,6 +173,9 @@ fn is_true_beside<R: Threads + Sync>(
     requires samplers { words.now.sizes.samplers ≡ 1 }
     requires none_out { is_out streamer.writer 0 ≡ false }
 {
+    if !comes_in(words, &mut streamer, 4, 0, &tile_of(0)) {
+        return false;
+    }
     let blank = Seen {
         version: 0,
         entries: [0; 4],
@@ -182,9 +185,6 @@ fn is_true_beside<R: Threads + Sync>(
         return false;
     };
     let pass = streamer.give_pass(words, 0);
-    if !comes_in(words, &mut streamer, 4, 0, &tile_of(0)) {
-        return false;
-    }
     let (mut streamer, is_done, pass, rows) = run_both(rt, words, streamer, pass, rows);
     streamer.take_back(words, pass);
     is_done && are_replayed(streamer.journal(), &rows)
