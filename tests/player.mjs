@@ -3,8 +3,8 @@
 // program's order that is refused. Files are read here; tiles are handed over only once they were asked for, as over a network.
 import { readFileSync, writeFileSync } from 'node:fs';
 import { createInterface } from 'node:readline';
-import { readJournal, lastPasses } from '../examples/viewer/journal.mjs';
-import { Drawing, Flaw, openStore, pictureFile, pixelOf, readPath, sampleAt, Table, tileStart } from '../examples/viewer/replay.mjs';
+import { readJournal, lastPasses } from '../examples/viewer/journal.js';
+import { Drawing, Flaw, openStore, pictureFile, pixelOf, readPath, sampleAt, Table, tileStart } from '../examples/viewer/replay.js';
 
 // The same with the input's name in the flaw.
 function reading(file, read) {

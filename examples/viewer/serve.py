@@ -39,7 +39,7 @@ class Handler(http.server.BaseHTTPRequestHandler):
     types = {
         ".html": "text/html; charset=utf-8",
         ".css": "text/css; charset=utf-8",
-        ".mjs": "text/javascript; charset=utf-8",
+        ".js": "text/javascript; charset=utf-8",
         ".wasm": "application/wasm",
         ".png": "image/png",
         ".txt": "text/plain; charset=utf-8",

@@ -1,5 +1,5 @@
 // A cache and its link: what is wanted goes in, what is mapped comes out. Nothing here draws.
-import { CAME, LOST, UNDER_WAY } from './vtex.mjs';
+import { CAME, LOST, UNDER_WAY } from './vtex.js';
 
 const CHOICE = 4;                                          // how many times the loads that can be sent are planned
 

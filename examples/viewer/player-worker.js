@@ -1,9 +1,9 @@
 // The worker of the player: reads the files, and draws pictures. Messages to it are `open`, with the three files, and `draw`, with a pass and a filter;
 // a new message stops what the last one began. Answers carry the number of their message.
 
-import { readJournal } from './journal.mjs';
-import { Drawing, Flaw, openStore, readPath } from './replay.mjs';
-import { sourceOf, TileSource, Unread } from './player-source.mjs';
+import { readJournal } from './journal.js';
+import { Drawing, Flaw, openStore, readPath } from './replay.js';
+import { sourceOf, TileSource, Unread } from './player-source.js';
 
 let walk = null, drawing = null, tiles = null, stop = new AbortController(), last = Promise.resolve();
 

@@ -1,6 +1,6 @@
 // Reads files that were chosen on the page or that a web server has: whole, or a store tile by tile.
 
-import { HEAD_BYTES, openStore, tileStart } from './replay.mjs';
+import { HEAD_BYTES, openStore, tileStart } from './replay.js';
 
 const WHOLE = 4 << 20, MOST_WHOLE = 1 << 30, MOST_HELD = 256 << 20;
 const MOST_RUN = 1 << 20, REQUESTS = 6;

@@ -1,5 +1,5 @@
 // What the hand does: dragging, the wheel, pinching, keys and buttons.
-import { lookOf, pathOf, turned, zoomed } from './camera.mjs';
+import { lookOf, pathOf, turned, zoomed } from './camera.js';
 
 /** Binds a viewer to the page's controls; `at` gives an element by its name. */
 export function takeHands(viewer, at) {

@@ -119,7 +119,7 @@ function addCameras(path, steps, camera) {
   path.pictures += steps;
 }
 
-// ---- The table of a journal (read in journal.mjs) at a version
+// ---- The table of a journal (read in journal.js) at a version
 
 /** The page table of a journal: `frames` has each page's frame, or -1, at `version`. */
 export class Table {

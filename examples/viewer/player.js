@@ -2,9 +2,9 @@
 //
 // The address may hold `store`, `path`, `journal`, `filter`, `view`, `pass` and `version`.
 
-import { eventLine, eventsOf, lastPasses, lineOfPass, passOfVersion } from './journal.mjs';
-import { coarserThanWanted, countsOf, drawLine, drawRows, EventList, imageOf, legendOf, passAt, Residency, rowAt, scaleOf, versionAt } from './player-views.mjs';
-import { LOST, MAP, nameOf, pictureFile, pixelOf, sampleAt, storeLine, Table, UNMAP } from './replay.mjs';
+import { eventLine, eventsOf, lastPasses, lineOfPass, passOfVersion } from './journal.js';
+import { coarserThanWanted, countsOf, drawLine, drawRows, EventList, imageOf, legendOf, passAt, Residency, rowAt, scaleOf, versionAt } from './player-views.js';
+import { LOST, MAP, nameOf, pictureFile, pixelOf, sampleAt, storeLine, Table, UNMAP } from './replay.js';
 
 const FILES = ['store', 'path', 'journal'];
 const MOST_KEPT = 192 << 20;
@@ -13,7 +13,7 @@ const words = new URLSearchParams(location.search);
 
 // ---- The worker
 
-const worker = new Worker(new URL('player-worker.mjs', import.meta.url), { type: 'module' });
+const worker = new Worker(new URL('player-worker.js', import.meta.url), { type: 'module' });
 const waiting = new Map();
 let messages = 0;
 

@@ -1,6 +1,6 @@
 // Draws by WebGL 2 what is mapped, and what the pixels want. The frames are one texture of samples, the page table another of entries.
-import { Trouble } from './source.mjs';
-import { rowsOf } from './camera.mjs';
+import { Trouble } from './source.js';
+import { rowsOf } from './camera.js';
 
 const PAGES_A_ROW = 512;
 

@@ -1,7 +1,7 @@
 // What the player draws: the time line of passes, the versions of a pass's rows, its picture, its events, and the residency.
 
-import { eventLine, eventsOf } from './journal.mjs';
-import { LOST, MAP, UNMAP } from './replay.mjs';
+import { eventLine, eventsOf } from './journal.js';
+import { LOST, MAP, UNMAP } from './replay.js';
 
 const COLOURS = { [MAP]: '#5aa9f0', [UNMAP]: '#eda73f', [LOST]: '#ff5470' };
 const WORDS = { [MAP]: 'map', [UNMAP]: 'unmap', [LOST]: 'lost' };

@@ -1,12 +1,12 @@
 // The page: opens the store that the address names, and shows it. `window.viewer` is for the console and for tests.
-import { load, NO_PAGE, VtexError } from './vtex.mjs';
-import { Failed, LocalFile, Trouble, WebFile } from './source.mjs';
-import { Link } from './link.mjs';
-import { Session } from './session.mjs';
-import { contextOf, mostFrames, Screen } from './screen.mjs';
-import { bounded, countMap, fitted, flightOver, lookOf, mapUnder, pathOf, roundingOf, wordsOfLook } from './camera.mjs';
-import { Panel } from './panel.mjs';
-import { takeHands } from './hand.mjs';
+import { load, NO_PAGE, VtexError } from './vtex.js';
+import { Failed, LocalFile, Trouble, WebFile } from './source.js';
+import { Link } from './link.js';
+import { Session } from './session.js';
+import { contextOf, mostFrames, Screen } from './screen.js';
+import { bounded, countMap, fitted, flightOver, lookOf, mapUnder, pathOf, roundingOf, wordsOfLook } from './camera.js';
+import { Panel } from './panel.js';
+import { takeHands } from './hand.js';
 
 const at = (name) => document.getElementById(name);
 const options = new URLSearchParams(location.search);

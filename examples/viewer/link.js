@@ -1,5 +1,5 @@
 // The requests for tiles: a few at a time, each for tiles that stand one after the other in the file.
-import { Failed, Trouble } from './source.mjs';
+import { Failed, Trouble } from './source.js';
 
 const LEAST_PAUSE = 250, LONGEST_PAUSE = 8000;
 

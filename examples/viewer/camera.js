@@ -3,7 +3,7 @@
 // A map is { mode: 'map', u, v, scale }: the texel in the middle of the picture, and how many texels a pixel has.
 // A flight is { mode: 'fly', u, v, h, c, s, focal }: the camera's place and height in texels, its heading, and its focal length in widths of the
 // picture. The horizon lies just above the first row. With isWalk its rows are rounded as those of `vtex walk` are.
-import { Trouble } from './source.mjs';
+import { Trouble } from './source.js';
 
 export const FOCAL = 0.5;
 const LOWEST = 1 / 64;
