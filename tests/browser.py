@@ -137,11 +137,13 @@ class Browser:
 
 
 class Page:
-    """A page of a browser. `keeps`: whether answers of the server may come from the browser's cache; `script`: what runs before the page's own."""
+    """A page of a browser. `keeps`: whether the browser's cache is on and the page shares what pages keep with the others that do; else it has a profile of
+    its own, with nothing in it. `script`: what runs before the page's own."""
 
     def __init__(self, browser, width, height, keeps=False, script=""):
         self.browser = browser
-        self.target = browser.call("Target.createTarget", url="about:blank")["targetId"]
+        self.context = {} if keeps else {"browserContextId": browser.call("Target.createBrowserContext")["browserContextId"]}
+        self.target = browser.call("Target.createTarget", url="about:blank", **self.context)["targetId"]
         self.session = browser.call("Target.attachToTarget", targetId=self.target, flatten=True)["sessionId"]
         browser.heard[self.session] = self.events = []
         for part in ("Runtime", "Page", "Network", "Log"):
@@ -206,6 +208,8 @@ class Page:
         self.browser.heard.pop(self.session, None)
         with contextlib.suppress(Failed):
             self.browser.call("Target.closeTarget", targetId=self.target)
+            if self.context:
+                self.browser.call("Target.disposeBrowserContext", **self.context)
 
 
 def text_of(details):

@@ -229,7 +229,7 @@ def try_drop_and_save(check, browser, site, folder, walk):
     page.ask(DROP % list(walk.names.values()))
     page.until(BEGIN)
     kept = os.path.join(folder, "kept")
-    browser.call("Browser.setDownloadBehavior", behavior="allow", downloadPath=kept)
+    browser.call("Browser.setDownloadBehavior", behavior="allow", downloadPath=kept, **page.context)
     page.ask("player.show(%d)" % last)
     page.until(BEGIN)
     click(page, "#save")

@@ -150,7 +150,7 @@ def test_faults(site, there, stores):
 
     site.ranges = False
     page = opened("?store=stores/a.vts")
-    say("answers no ranges" in page.ask(trouble) and page.told == [], "a server without ranges is named")
+    say("serves no byte ranges" in page.ask(trouble) and page.told == [], "a server without ranges is named")
     page.close()
     site.ranges = True
 

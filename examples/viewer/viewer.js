@@ -1,7 +1,8 @@
 // The page: opens the store that the address names, and shows it. `window.viewer` is for the console and for tests.
 import { load, NO_PAGE, VtexError } from './vtex.js';
-import { Failed, LocalFile, Trouble, WebFile } from './source.js';
+import { addressOf, Failed, LocalFile, sentenceOf, tried, Trouble, WebFile } from './source.js';
 import { Link } from './link.js';
+import { mostOf } from './runs.js';
 import { Session } from './session.js';
 import { contextOf, mostFrames, Screen } from './screen.js';
 import { bounded, countMap, fitted, flightOver, lookOf, mapUnder, pathOf, roundingOf, wordsOfLook } from './camera.js';
@@ -11,9 +12,8 @@ import { takeHands } from './hand.js';
 const at = (name) => document.getElementById(name);
 const options = new URLSearchParams(location.search);
 const number = (name, or) => (options.has(name) && options.get(name) !== '' ? Number(options.get(name)) : or);
-const sleep = (time) => new Promise((done) => { setTimeout(done, time); });
 
-const PICTURES_A_SECOND = 24, PANEL_EVERY = 200, ADDRESS_AFTER = 300, PINNED_BYTES = 300e3, RUN_BYTES = 250e3;
+const PICTURES_A_SECOND = 24, PANEL_EVERY = 200, ADDRESS_AFTER = 300, PINNED_BYTES = 300e3;
 
 function say(sentence) {
   at('trouble').textContent = sentence;
@@ -173,7 +173,7 @@ export class Viewer {
   after(now) {
     const { link } = this.session;
     if (link.trouble) say(link.trouble.message);
-    else say(link.pause > 1000 ? 'The server of this store does not answer. Trying again.' : '');
+    else say(link.problem && link.pause > 1000 ? `${link.problem.message} Trying again.` : '');
     if (!at('panel').hidden && !(now - this.paneled < PANEL_EVERY)) {
       this.paneled = now;
       this.showPanel();
@@ -200,18 +200,7 @@ export class Viewer {
   }
 }
 
-// What fails for a while is tried again, each time after a longer pause.
-async function tried(call) {
-  for (let pause = 250; ; pause *= 2) {
-    try {
-      return await call();
-    } catch (error) {
-      if (!(error instanceof Failed) || pause > 16000) throw error;
-      say(`The server of this store does not answer (${error.message}). Trying again.`);
-      await sleep(pause);
-    }
-  }
-}
+const sayFailure = (error) => say(`${error.message} Trying again.`);
 
 // Frames for six times the tiles of a screen, since a flight wants finer levels and each page those above it; and as many levels pinned as a few hundred kilobytes hold.
 function sizesOf(store, gl) {
@@ -228,13 +217,13 @@ async function open(source) {
   at('choose').hidden = true;
   say('');
   const canvas = at('picture'), gl = contextOf(canvas);
-  const [library, head] = await Promise.all([load(import.meta.url, options.get('module') === '32' ? false : undefined), tried(() => source.open())]);
+  const [library, head] = await Promise.all([load(import.meta.url, options.get('module') === '32' ? false : undefined), tried(() => source.open(), { heard: sayFailure })]);
   const store = library.open(head, source.length), sizes = sizesOf(store, gl);
   let viewer = null;
-  const link = new Link(source, store, { parallel: number('parallel', 6), run: number('run', Math.min(Math.max(Math.floor(RUN_BYTES / store.tileBytes), 4), 64)), heard: () => viewer?.work() });
+  const link = new Link(source, store, { parallel: number('parallel', 6), run: number('run', mostOf(store)), heard: () => viewer?.work() });
   const screen = new Screen(gl, store, sizes.frames);
   const session = new Session(store, link, { ...sizes, upload: (...change) => screen.upload(...change) });
-  await tried(() => session.pin());
+  await tried(() => session.pin(), { heard: sayFailure });
   say('');
   const most = store.depth === 1 ? 255 : 65535, ratio = devicePixelRatio || 1;
   Object.assign(canvas, { width: Math.round(canvas.clientWidth * ratio), height: Math.round(canvas.clientHeight * ratio) });
@@ -245,7 +234,7 @@ async function open(source) {
   at('tools').hidden = options.has('bare');
   if (options.has('path')) await offerPath(viewer, new URL(options.get('path'), location.href));
   viewer.schedule();
-  document.title = `${decodeURIComponent(source.url.split('/').at(-1))} – vtex`;
+  document.title = `${source.name} – vtex`;
   return viewer;
 }
 
@@ -256,15 +245,8 @@ async function offerPath(viewer, url) {
   at('play').hidden = false;
 }
 
-function sentenceOf(error) {
-  if (error instanceof VtexError && error.name === 'VTEX_BAD_STORE') return 'This file is no store: its first 16 bytes or its length are not those of one.';
-  if (error instanceof VtexError && error.name === 'VTEX_NO_MEMORY') return 'There is not enough memory for so many frames.';
-  if (error instanceof Failed) return `The server of this store does not answer (${error.message}).`;
-  return error.message;
-}
-
-function begin(source) {
-  return open(source).catch((error) => {
+function begin(sourceOf) {
+  return Promise.resolve().then(() => open(sourceOf())).catch((error) => {
     say(sentenceOf(error));
     if (!(error instanceof Trouble || error instanceof Failed || error instanceof VtexError)) throw error;
     return null;
@@ -276,8 +258,8 @@ at('picture').addEventListener('webglcontextlost', (event) => {
   say('The graphics processor was taken away. The page goes on once it is back.');
 });
 at('picture').addEventListener('webglcontextrestored', () => location.reload());
-at('local').addEventListener('change', ({ target }) => { if (target.files[0]) window.ready = begin(new LocalFile(target.files[0])); });
+at('local').addEventListener('change', ({ target }) => { if (target.files[0]) window.ready = begin(() => new LocalFile(target.files[0])); });
 
 const name = options.get('store');
-if (name) window.ready = begin(new WebFile(new URL(name, location.href).href));
+if (name) window.ready = begin(() => new WebFile(addressOf(name, location.href)));
 else at('choose').hidden = false;
