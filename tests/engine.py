@@ -3,9 +3,9 @@
 
 usage: engine.py [PROGRAM]
 
-The static library is taken from crates/vtex_c/out, where `rt lib` puts it; if it is not there, `rt lib` is run. Everything is built by gcc and g++, and a
+The static library is the one of dist/, or of crates/vtex_c/out, where `rt lib` puts it, if that is newer. Everything is built by gcc and g++, and a
 second time with -fsanitize=address,undefined; the readers of a shared table a third time with -fsanitize=thread. PROGRAM is the built vtex,
-crates/vtex/out/vtex where it is left out.
+that of dist/ or crates/vtex/out/vtex where it is left out.
 
 The engine draws each row at the start of its pass and has one sampler and one loader. So has the walk of reference.py, and all of both is compared byte
 for byte: pictures, journal and log. A live walk of the program may draw a row at any version of its pass. Of that walk the journal without the versions
@@ -18,9 +18,9 @@ import subprocess
 import sys
 import tempfile
 
-TOP = os.path.dirname(os.path.dirname(os.path.abspath(__file__)))
-CRATE = os.path.join(TOP, "crates", "vtex_c")
-LIBRARY = os.path.join(CRATE, "out", "libvtex_c.a")
+import artefacts
+
+TOP = artefacts.TOP
 REFERENCE = [sys.executable, os.path.join(TOP, "tests", "reference.py")]
 WARNINGS = ["-O2", "-g", "-Wall", "-Wextra", "-Werror", "-I" + os.path.join(TOP, "include")]
 SANITIZERS = ["-fsanitize=address,undefined", "-fno-sanitize-recover=all"]
@@ -52,6 +52,8 @@ SHARED = [
 ]
 
 passed, failed = 0, 0
+# What is linked for the library; main() finds it.
+LIBRARIES = []
 
 
 def say(good, what):
@@ -70,15 +72,8 @@ def contents(name):
         return file.read()
 
 
-def heap():
-    """The C library's calls that the kit's programs make, malloc among them."""
-    guides = subprocess.run(["rt", "doc"], stdout=subprocess.PIPE, cwd=CRATE, text=True).stdout.strip()
-    return os.path.join(os.path.dirname(guides.splitlines()[-1]), "c", "liblibc_c.a")
-
-
 def build(compiler, source, name, *flags):
-    libraries = [LIBRARY, heap()]
-    made = run(*compiler, *WARNINGS, os.path.join(TOP, source), *libraries, *flags, "-o", name)
+    made = run(*compiler, *WARNINGS, os.path.join(TOP, source), *LIBRARIES, *flags, "-o", name)
     say(made.returncode == 0 and not made.stderr, "building %s: %s" % (name, made.stderr.decode()))
     return made.returncode == 0
 
@@ -205,14 +200,13 @@ def settle(number, row):
 
 
 def main():
-    program = os.path.abspath(sys.argv[1]) if len(sys.argv) > 1 else os.path.join(TOP, "crates", "vtex", "out", "vtex")
-    if not os.path.exists(LIBRARY):
-        run("sh", "-c", "cd '%s' && rt lib" % CRATE)
-    if not os.access(program, os.X_OK):
+    program = os.path.abspath(sys.argv[1]) if len(sys.argv) > 1 else artefacts.program()
+    if program is None or not os.access(program, os.X_OK):
         print("no program at %s: the walks are compared with reference.py alone" % program)
         program = None
     with tempfile.TemporaryDirectory() as work:
         os.chdir(work)
+        LIBRARIES[:] = artefacts.library_words(work)
         build_all()
         try_calls()
         smallest()

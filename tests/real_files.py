@@ -1,7 +1,7 @@
 #!/usr/bin/env python3
 """Runs the built program on real files and compares its pictures, stores and journals byte for byte with those of independent programs.
 
-usage: real_files.py [PROGRAM]     (crates/vtex/out/vtex where it is left out, which `rt run` builds if it is not there)
+usage: real_files.py [--without-engine] [PROGRAM]     (that of dist/, or crates/vtex/out/vtex if that is newer, where it is left out)
 
 Part of the gate. Each row of the tables of real_rows.py and real_runs.py is tried in a folder of its own, several at once; `Checks` says what that
 folder holds before. The results are compared with those of the modules behind reference.py, which are called here, with those of client.py, with what
@@ -21,6 +21,7 @@ import sys
 import tempfile
 from concurrent.futures import ProcessPoolExecutor
 
+import artefacts
 import client
 from journals import Journal, replay
 from judge import FAULT, LINES, Doubt, Left, flaws_of_walk
@@ -559,7 +560,7 @@ def try_trial(check):
 
 
 def try_engine(check):
-    """The cache for engines. Its library is built by `rt lib` where it is not there yet, which proves what it stands on."""
+    """The cache for engines."""
     if not shutil.which("g++"):
         check.skip("the cache for engines, for g++ is not here")
         return
@@ -638,18 +639,19 @@ def do(place, program, tiler):
 
 
 def main(words):
-    program = os.path.abspath(words[0]) if words else os.path.join(CRATE, "out", "vtex")
-    if not words and not os.access(program, os.X_OK):
-        subprocess.run(["rt", "run"], cwd=CRATE, stdout=subprocess.DEVNULL, stderr=subprocess.DEVNULL)
-    if not os.access(program, os.X_OK):
-        print("no program at " + program)
+    jobs = range(len(JOBS))
+    if words[:1] == ["--without-engine"]:
+        words, jobs = words[1:], [number for number in jobs if JOBS[number][0] != try_engine]
+    program = os.path.abspath(words[0]) if words else artefacts.program()
+    if program is None or not os.access(program, os.X_OK):
+        print("no program at %s" % (program or "dist/vtex"))
         return 1
     passed = failed = 0
     with tempfile.TemporaryDirectory() as folder, ProcessPoolExecutor(len(os.sched_getaffinity(0))) as pool:
         tiler = os.path.join(folder, "tiles")
         if not shutil.which("gcc") or subprocess.run(["gcc", "-O2", "-o", tiler, os.path.join(HERE, "tiles.c")]).returncode != 0:
             tiler = None
-        for good, bad, lines in pool.map(do, range(len(JOBS)), [program] * len(JOBS), [tiler] * len(JOBS)):
+        for good, bad, lines in pool.map(do, jobs, [program] * len(jobs), [tiler] * len(jobs)):
             passed, failed = passed + good, failed + bad
             for line in lines:
                 print(line, flush=True)

@@ -3,7 +3,7 @@
 
 usage: shared_table.py [SECONDS]
 
-Builds shared_table.cpp by g++ over crates/vtex_c/out/libvtex_c.a (`rt lib` there makes it, and is run where it is missing) and runs its three
+Builds shared_table.cpp by g++ over the library of dist/, or of crates/vtex_c/out if that is newer, and runs its three
 parts: each call alone; readers that hold for one run of texels beside a writer that publishes without a pause; and readers that hold for a
 picture. Each row takes SECONDS, 1 where they are left out: some two minutes in all.
 """
@@ -14,24 +14,16 @@ import tempfile
 
 HERE = os.path.dirname(os.path.abspath(__file__))
 TOP = os.path.dirname(os.path.dirname(HERE))
-CRATE = os.path.join(TOP, "crates", "vtex_c")
-LIBRARY = os.path.join(CRATE, "out", "libvtex_c.a")
-
-
-def heap():
-    """The C library's calls that the kit's programs make, malloc among them."""
-    guides = subprocess.run(["rt", "doc"], stdout=subprocess.PIPE, cwd=CRATE, text=True, check=True).stdout.strip()
-    return os.path.join(os.path.dirname(guides.splitlines()[-1]), "c", "liblibc_c.a")
+sys.path.insert(0, os.path.dirname(HERE))
+import artefacts  # noqa: E402
 
 
 def main():
     seconds = sys.argv[1] if len(sys.argv) > 1 else "1"
-    if not os.path.exists(LIBRARY):
-        subprocess.run(["rt", "lib"], cwd=CRATE, check=True)
     with tempfile.TemporaryDirectory() as work:
         program = os.path.join(work, "shared_table")
         source = os.path.join(HERE, "shared_table.cpp")
-        subprocess.run(["g++", "-std=c++17", "-O2", "-I" + os.path.join(TOP, "include"), source, LIBRARY, heap(), "-pthread", "-o", program], check=True)
+        subprocess.run(["g++", "-std=c++17", "-O2", "-I" + os.path.join(TOP, "include"), source, *artefacts.library_words(work), "-pthread", "-o", program], check=True)
         for what in ("calls", "rows", "pictures"):
             subprocess.run([program, what, seconds], check=True)
             print(flush=True)
