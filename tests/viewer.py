@@ -22,7 +22,7 @@ sys.path[:0] = [os.path.join(TOP, "tests"), os.path.join(TOP, "tests", "viewer")
 import browser  # noqa: E402
 import modules  # noqa: E402
 import textures  # noqa: E402
-from looks import Look, differ, flight_differs, mapped_of, pages_asked, reaches  # noqa: E402
+from looks import Look, differ, flight_differs, mapped_of, pages_asked, reaches, shown  # noqa: E402
 from stores import Path, Store  # noqa: E402
 
 WIDE, HIGH = 320, 200
@@ -50,13 +50,6 @@ def make_stores(folder):
 
 
 # ---- what is shown, and what is asked for
-
-
-def shown(page, look):
-    """The picture that the page draws, once it is sharp: rows from the top, three bytes a pixel."""
-    data, row = page.pixels("viewer.screen.pixels(viewer.look)"), 4 * look.width
-    rows = [data[at : at + row] for at in range(0, len(data), row)][::-1]
-    return [[bytes(row[4 * x : 4 * x + 3]) for x in range(look.width)] for row in rows]
 
 
 def sharp(page, seconds=90):

@@ -78,6 +78,13 @@ def flight_differs(rows, store, path, picture):
     return count / (path.width * path.height)
 
 
+def shown(page, look):
+    """The picture that the page draws, once it is sharp: rows from the top, three bytes a pixel."""
+    data, row = page.pixels("viewer.screen.pixels(viewer.look)"), 4 * look.width
+    rows = [data[at : at + row] for at in range(0, len(data), row)][::-1]
+    return [[bytes(row[4 * x : 4 * x + 3]) for x in range(look.width)] for row in rows]
+
+
 def mapped_of(page):
     """The pages that the page's cache maps."""
     entries = page.ask("viewer.store.levels.map((_, k) => [...viewer.session.cache.table(k)]).flat()")
