@@ -419,7 +419,7 @@ def test_failures(there, room, root, file):
         tile = 16, 3 * TILE * TILE
         due("none", "", "stores/a.vts", *tile)
         due("missing", "status 404", "stores/nothing.vts")
-        due("not-store", "is empty", "stores/none.vts")
+        due("not-store", "is no store", "stores/none.vts")
         due("not-store", "is no store", "stores/text.vts")
         due("address", "is no address", "http://")
         due("address", "is no address", "ftp://127.0.0.1/a.vts")

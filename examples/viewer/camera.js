@@ -3,7 +3,6 @@
 // A map is { mode: 'map', u, v, scale }: the texel in the middle of the picture, and how many texels a pixel has.
 // A flight is { mode: 'fly', u, v, h, c, s, focal }: the camera's place and height in texels, its heading, and its focal length in widths of the
 // picture. The horizon lies just above the first row. With isWalk its rows are rounded as those of `vtex walk` are.
-import { Trouble } from './source.js';
 
 export const FOCAL = 0.5;
 const LOWEST = 1 / 64;
@@ -143,36 +142,4 @@ export function lookOf(address, view) {
     filter: words.get('filter') === 'bilinear' ? 'bilinear' : 'nearest',
     rounding: ['round', 'floor'].includes(words.get('level')) ? words.get('level') : roundingOf(found),
   };
-}
-
-// ---- paths
-
-const between = (text, least, most) => (/^(0|-?[1-9][0-9]{0,15})$/.test(text) && Number(text) >= least && Number(text) <= most ? Number(text) : NaN);
-const KEY = [[-(2 ** 31), 2 ** 31], [-(2 ** 31), 2 ** 31], [1, 2 ** 24], [-16384, 16384], [-16384, 16384]];
-
-/** The pictures of a path file (docs/FORMATS.md, Paths): a flight each. */
-export function pathOf(text) {
-  const lines = text.split('\n'), bad = (i) => new Trouble(`The path has a bad line: line ${i + 1}.`);
-  if (lines.pop() !== '') throw bad(lines.length);
-  const [, width, height] = numbersOf(lines[0], 'size', [[1, 2048], [1, 2048]]) ?? [];
-  if (!width || !height) throw bad(0);
-  const [, focal] = numbersOf(lines[1], 'focal', [[1, 4096]]) ?? [];
-  if (!focal) throw bad(1);
-  const keys = [];
-  for (let i = 2; i < lines.length; i++) {
-    const at = numbersOf(lines[i], 'at', KEY), to = numbersOf(lines[i], 'to', [[1, 9999], ...KEY]);
-    if (!at && !(to && keys.length > 0)) throw bad(i);
-    const [count, key] = at ? [1, at.slice(1)] : [to[1], to.slice(2)], last = at ? key : keys.at(-1);
-    if (keys.length + count > 9999) throw new Trouble('The path has too many pictures.');
-    for (let j = 1; j <= count; j++) keys.push(key.map((number, k) => last[k] + Math.floor((number - last[k]) * j / count)));
-  }
-  return keys.map(([u, v, h, c, s]) => ({ mode: 'fly', u: u / 256, v: v / 256, h: h / 256, c: c / 16384, s: s / 16384, focal: focal / width }));
-}
-
-// A line's numbers behind its word, which is the first of the list; null where the line is none of that form.
-function numbersOf(line, word, bounds) {
-  const fields = (line ?? '').split(' ');
-  if (fields[0] !== word || fields.length !== bounds.length + 1) return null;
-  const numbers = bounds.map(([least, most], i) => between(fields[i + 1], least, most));
-  return numbers.some(Number.isNaN) ? null : [word, ...numbers];
 }

@@ -1,5 +1,7 @@
 // What the hand does: dragging, the wheel, pinching, keys and buttons.
-import { lookOf, pathOf, turned, zoomed } from './camera.js';
+import { lookOf, turned, zoomed } from './camera.js';
+import { sentenceOf } from './errors.js';
+import { flightsOf, readPath } from './path.js';
 
 /** Binds a viewer to the page's controls; `at` gives an element by its name. */
 export function takeHands(viewer, at) {
@@ -119,10 +121,10 @@ function takeButtons(viewer, at) {
   on('play', 'click', () => viewer.play(viewer.path ? null : viewer.offered));
   on('path', 'change', async ({ files }) => {
     try {
-      viewer.offered = pathOf(await files[0].text());
+      viewer.offered = flightsOf(readPath(new Uint8Array(await files[0].arrayBuffer())));
       viewer.play(viewer.offered);
     } catch (error) {
-      at('trouble').textContent = error.message;
+      at('trouble').textContent = sentenceOf(error);
       at('trouble').hidden = false;
     }
   });

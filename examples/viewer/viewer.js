@@ -5,7 +5,8 @@ import { Link } from './link.js';
 import { mostOf } from './runs.js';
 import { Session } from './session.js';
 import { contextOf, mostFrames, Screen } from './screen.js';
-import { bounded, countMap, fitted, flightOver, lookOf, mapUnder, pathOf, roundingOf, wordsOfLook } from './camera.js';
+import { bounded, countMap, fitted, flightOver, lookOf, mapUnder, roundingOf, wordsOfLook } from './camera.js';
+import { flightsOf, readPath } from './path.js';
 import { Panel } from './panel.js';
 import { takeHands } from './hand.js';
 
@@ -232,16 +233,15 @@ async function open(source) {
   takeHands(viewer, at);
   at('panel').hidden = options.has('bare') || innerWidth < 700;
   at('tools').hidden = options.has('bare');
-  if (options.has('path')) await offerPath(viewer, new URL(options.get('path'), location.href));
+  if (options.has('path')) await offerPath(viewer, options.get('path')).catch((error) => say(sentenceOf(error)));
   viewer.schedule();
   document.title = `${source.name} – vtex`;
   return viewer;
 }
 
-async function offerPath(viewer, url) {
-  const answer = await fetch(url);
-  if (!answer.ok) throw new Trouble(`There is no path to be had at ${url} (status ${answer.status}).`);
-  viewer.offered = pathOf(await answer.text());
+async function offerPath(viewer, text) {
+  const source = new WebFile(addressOf(text, location.href));
+  viewer.offered = flightsOf(readPath(await tried(() => source.whole(), { heard: sayFailure })));
   at('play').hidden = false;
 }
 
