@@ -18,19 +18,49 @@ COMMANDS = {
     "tile": (("TEXTURE", "STORE"), ("tile",)),
     "info": (("STORE",), ()),
     "upgrade": (("STORE", "NEWSTORE"), ()),
-    "walk": (("STORE", "PATH", "PREFIX"), ("frames", "samplers", "loaders", "batch", "pinned", "journal", "table", "rows", "filter", "settled")),
+    "walk": (
+        ("STORE", "PATH", "PREFIX"),
+        (
+            "frames",
+            "samplers",
+            "loaders",
+            "batch",
+            "pinned",
+            "journal",
+            "table",
+            "rows",
+            "filter",
+            "settled",
+        ),
+    ),
     "replay": (("STORE", "PATH", "JOURNAL", "PREFIX"), ("filter",)),
     "gen": (("NUMBER", "WIDTH", "HEIGHT", "NAME"), ()),
     "trial": (("NUMBER",), ()),
 }
-RANGES = {"frames": (1, 65535), "samplers": (1, 64), "loaders": (1, 16), "batch": (1, 4096), "pinned": (1, 16)}
+RANGES = {
+    "frames": (1, 65535),
+    "samplers": (1, 64),
+    "loaders": (1, 16),
+    "batch": (1, 4096),
+    "pinned": (1, 16),
+}
 NUMBERS = {"NUMBER": (0, 65535), "WIDTH": (1, 8192), "HEIGHT": (1, 8192)}
-CHOICES = {"tile": ("2", "4", "8", "16", "32", "64", "128"), "filter": ("nearest", "bilinear"), "table": ("words", "swap"), "rows": ("dealt", "shared")}
+CHOICES = {
+    "tile": ("2", "4", "8", "16", "32", "64", "128"),
+    "filter": ("nearest", "bilinear"),
+    "table": ("words", "swap"),
+    "rows": ("dealt", "shared"),
+}
 # At most one of these options of a walk may have another value than its default.
 MACHINES = {"table": "words", "rows": "dealt", "filter": "nearest"}
 MOST_TEXELS = 8388608
 # What the words name that is read, and what it has to be.
-READ = {"TEXTURE": "a PPM texture", "STORE": "a tile store", "PATH": "a camera path", "JOURNAL": "a journal"}
+READ = {
+    "TEXTURE": "a PPM texture",
+    "STORE": "a tile store",
+    "PATH": "a camera path",
+    "JOURNAL": "a journal",
+}
 # The first bytes of a file, and what it is then.
 KINDS = (
     (b"P6", "a PPM texture"),
@@ -100,7 +130,13 @@ class Words:
         self.flaw = self.take(words)
 
     def take(self, words):
-        if any(word in ("--help", "-h", "help", "--version", "-V", "version") for word in words[:1]) or "--help" in words or "-h" in words:
+        if (
+            any(
+                word in ("--help", "-h", "help", "--version", "-V", "version") for word in words[:1]
+            )
+            or "--help" in words
+            or "-h" in words
+        ):
             return "the program prints no help and no version; read the manual: man vtex, or docs/FORMATS.md"
         if not words:
             return f"no command is given; the commands are {', '.join(COMMANDS)}"
@@ -108,7 +144,9 @@ class Words:
         if self.command.startswith("-"):
             return "the command comes first, and the options behind it: vtex walk STORE PATH PREFIX --frames 64"
         if self.command not in COMMANDS:
-            return f"there is no command {self.command}" + (like(self.command, COMMANDS) or f"; the commands are {', '.join(COMMANDS)}")
+            return f"there is no command {self.command}" + (
+                like(self.command, COMMANDS) or f"; the commands are {', '.join(COMMANDS)}"
+            )
         form, known = COMMANDS[self.command]
         plain, rest = [], list(words[1:])
         while rest:
@@ -127,13 +165,21 @@ class Words:
             else:
                 plain.append(word)
         if len(plain) != len(form):
-            return f"{self.command} takes {named(len(form), 'word')} ({' '.join(form)}) and got {len(plain)}" + (f" ({' '.join(plain)})" if plain else "") + self.hint(plain, form)
+            return (
+                f"{self.command} takes {named(len(form), 'word')} ({' '.join(form)}) and got {len(plain)}"
+                + (f" ({' '.join(plain)})" if plain else "")
+                + self.hint(plain, form)
+            )
         self.names = dict(zip(form, plain))
         for name, bounds in NUMBERS.items():
             flaw = name in self.names and flaw_of_number(name, self.names[name], *bounds)
             if flaw:
                 return flaw
-        changed = [f"--{name} {self.options[name]}" for name, usual in MACHINES.items() if self.options.get(name, usual) != usual]
+        changed = [
+            f"--{name} {self.options[name]}"
+            for name, usual in MACHINES.items()
+            if self.options.get(name, usual) != usual
+        ]
         if len(changed) > 1 and self.command == "walk":
             return f"a walk takes one of --table swap, --rows shared and --filter bilinear, and not {' and '.join(changed)} together"
         return self.clash()
@@ -142,7 +188,11 @@ class Words:
         name, has_value, value = word[2:].partition("=")
         if name not in known:
             every = ", ".join(f"--{it}" for it in known) or "none"
-            return f"{self.command} has no option --{name}" + (like(name, known, "--{}") or f"; its options are {every}" if known else "; it has none")
+            return f"{self.command} has no option --{name}" + (
+                like(name, known, "--{}") or f"; its options are {every}"
+                if known
+                else "; it has none"
+            )
         if name in self.options:
             return f"--{name} is given twice; give it once"
         if name == "settled":
@@ -167,14 +217,20 @@ class Words:
         if command == "upgrade" and names["STORE"] == names["NEWSTORE"]:
             return "the new store would be written over the old one; give it another name"
         if command in ("plain", "walk", "replay"):
-            journal = names.get("JOURNAL", self.options.get("journal", "journal.txt") if command == "walk" else None)
+            journal = names.get(
+                "JOURNAL", self.options.get("journal", "journal.txt") if command == "walk" else None
+            )
             read = [names[it] for it in ("TEXTURE", "STORE", "PATH") if it in names]
             picture = re.compile(re.escape(names["PREFIX"]) + r"[0-9]{4}\.ppm", re.DOTALL)
             for name in read + ([journal] if journal else []):
                 if picture.fullmatch(name):
                     return f"{name} is the name of a picture of the prefix {names['PREFIX']}, which would be written over it; take another prefix"
             if journal in read and command in ("walk", "replay"):
-                return f"the journal and another file of the command are both named {journal}" + ("; give the journal another name by --journal" if command == "walk" else "; name the walk's own journal")
+                return f"the journal and another file of the command are both named {journal}" + (
+                    "; give the journal another name by --journal"
+                    if command == "walk"
+                    else "; name the walk's own journal"
+                )
         return None
 
 
@@ -201,14 +257,24 @@ def flaw_of_texels(words):
 
 def flaw_of_reading(words):
     """Returns why a file that is read could not be opened."""
-    for word in [it for it in ("PATH", "TEXTURE", "STORE", "JOURNAL") if it in words.names and not (words.command == "tile" and it == "STORE")]:
+    for word in [
+        it
+        for it in ("PATH", "TEXTURE", "STORE", "JOURNAL")
+        if it in words.names and not (words.command == "tile" and it == "STORE")
+    ]:
         name = words.names[word]
         if name == "-" and not os.path.exists(name):
             return "- is taken as a file's name; for the standard input write /dev/stdin"
         if not os.path.exists(name):
             there = os.path.dirname(name) or "."
-            near = os.path.isdir(there) and os.access(there, os.R_OK) and difflib.get_close_matches(os.path.basename(name), os.listdir(there), 1)
-            return f"there is no file {name}, which was to be {READ[word]}" + (f"; did you mean {os.path.join(os.path.dirname(name), near[0])}?" if near else "")
+            near = (
+                os.path.isdir(there)
+                and os.access(there, os.R_OK)
+                and difflib.get_close_matches(os.path.basename(name), os.listdir(there), 1)
+            )
+            return f"there is no file {name}, which was to be {READ[word]}" + (
+                f"; did you mean {os.path.join(os.path.dirname(name), near[0])}?" if near else ""
+            )
         if os.path.isdir(name):
             return f"{name} is a folder, and {READ[word]} is wanted there"
         if not os.access(name, os.R_OK):
@@ -218,7 +284,14 @@ def flaw_of_reading(words):
 
 def flaw_of_writing(words):
     """Returns why a file could not be written."""
-    made = {"tile": ["STORE"], "upgrade": ["NEWSTORE"], "gen": ["NAME"], "plain": ["PREFIX"], "walk": ["PREFIX"], "replay": ["PREFIX"]}.get(words.command, [])
+    made = {
+        "tile": ["STORE"],
+        "upgrade": ["NEWSTORE"],
+        "gen": ["NAME"],
+        "plain": ["PREFIX"],
+        "walk": ["PREFIX"],
+        "replay": ["PREFIX"],
+    }.get(words.command, [])
     names = [words.names[it] for it in made]
     if words.command == "walk":
         names.insert(0, words.options.get("journal", "journal.txt"))
@@ -252,18 +325,32 @@ def flaw_of_content(words, line):
     if not found:
         return None
     name, flaw = found.groups()
-    word = next((it for it in ("PATH", "TEXTURE", "STORE", "JOURNAL") if words.names.get(it) == name), None)
+    word = next(
+        (it for it in ("PATH", "TEXTURE", "STORE", "JOURNAL") if words.names.get(it) == name), None
+    )
     wanted, kind = READ.get(word, "another file"), kind_of(name)
     form = " ".join(COMMANDS[words.command][0])
-    if flaw in ("bad magic", "bad line 1") and kind not in (wanted, "a file of another kind", "an empty file", "a text that begins with a byte order mark"):
-        cure = convert(name) if word == "TEXTURE" and kind.endswith(("image", "text")) else f"; the order is: vtex {words.command} {form}"
+    if flaw in ("bad magic", "bad line 1") and kind not in (
+        wanted,
+        "a file of another kind",
+        "an empty file",
+        "a text that begins with a byte order mark",
+    ):
+        cure = (
+            convert(name)
+            if word == "TEXTURE" and kind.endswith(("image", "text"))
+            else f"; the order is: vtex {words.command} {form}"
+        )
         return f"{name} is {kind}, and {wanted} is wanted there{cure}"
     if kind == "an empty file":
         return f"{name} is an empty file, and {wanted} is wanted there"
     if word == "PATH" and flaw.startswith(("bad line", "no key", "too many")):
         return flaw_of_path(name, flaw)
     if flaw == "bad magic":
-        return f"{name} is {wanted} by no means: its first bytes are not {'P6' if word == 'TEXTURE' else 'VTS1 or VTS2'}" + (convert(name) if word == "TEXTURE" else "")
+        return (
+            f"{name} is {wanted} by no means: its first bytes are not {'P6' if word == 'TEXTURE' else 'VTS1 or VTS2'}"
+            + (convert(name) if word == "TEXTURE" else "")
+        )
     if flaw == "bad size":
         most = 8192 if words.command == "plain" else 16384
         return f"a side of {name} is 0 or more than {most} texels, the most that {words.command} takes; make it smaller: vips resize {name} small.ppm 0.5"
@@ -276,7 +363,9 @@ def flaw_of_content(words, line):
     if flaw.startswith("sample over"):
         return f"a sample of {name} is more than the maximum that its header names; the header or the samples are wrong, so convert the image again"
     if flaw.startswith("too many pages"):
-        return f"with this tile side {name} has more than 262,144 pages; take a larger one: --tile 64"
+        return (
+            f"with this tile side {name} has more than 262,144 pages; take a larger one: --tile 64"
+        )
     if flaw == "already wide":
         return f"{name} has two bytes a sample already, so there is nothing to upgrade"
     if flaw.startswith("length"):
@@ -302,7 +391,11 @@ def flaw_of_path(name, flaw):
     at = f"line {number} of {name}"
     form = {1: "size WIDTH HEIGHT", 2: "focal F"}.get(number, "at U V H C S, or to N U V H C S")
     if number >= len(lines):
-        return f"{at} has to be {form}, and " + ("the file ends before it" if not line else "its line feed is missing; end the last line: echo >>" + name)
+        return f"{at} has to be {form}, and " + (
+            "the file ends before it"
+            if not line
+            else "its line feed is missing; end the last line: echo >>" + name
+        )
     if b"\r" in line:
         return f"{at} ends with a carriage return; a path has line feeds alone: sed -i 's/\\r$//' {name}"
     if line.startswith(b"\xef\xbb\xbf"):
@@ -314,9 +407,18 @@ def flaw_of_path(name, flaw):
     if "\t" in text or "  " in text or text != text.strip():
         return f"{at} has to have one blank between its fields, and none before or behind them"
     word, *fields = text.split(" ")
-    bounds = {"size": [(1, 2048)] * 2, "focal": [(1, 4096)], "at": [(-(2**31), 2**31)] * 2 + [(1, 2**24)] + [(-16384, 16384)] * 2}
+    bounds = {
+        "size": [(1, 2048)] * 2,
+        "focal": [(1, 4096)],
+        "at": [(-(2**31), 2**31)] * 2 + [(1, 2**24)] + [(-16384, 16384)] * 2,
+    }
     bounds["to"] = [(1, 9999)] + bounds["at"]
-    letters = {"size": ["width", "height"], "focal": ["the focal number"], "at": list("uvhcs"), "to": list("nuvhcs")}
+    letters = {
+        "size": ["width", "height"],
+        "focal": ["the focal number"],
+        "at": list("uvhcs"),
+        "to": list("nuvhcs"),
+    }
     right = {1: ("size",), 2: ("focal",)}.get(number, ("at", "to"))
     if word not in right:
         return f"{at} has to be {form}, and begins with {word}" + like(word, right)
@@ -349,7 +451,11 @@ def explain(words, status, line):
     if taken.flaw:
         return None
     if status == 3:
-        return flaw_of_reading(taken) or flaw_of_writing(taken) or "the output was closed before all was written, or a disk failed"
+        return (
+            flaw_of_reading(taken)
+            or flaw_of_writing(taken)
+            or "the output was closed before all was written, or a disk failed"
+        )
     if status == 4:
         return flaw_of_content(taken, line)
     if status == 5:
@@ -366,7 +472,10 @@ def main(words):
     try:
         ran = subprocess.run(words, stderr=subprocess.PIPE)
     except OSError as error:
-        print(f"explain: {words[0]} does not run: {error.strerror}; install it: sh dist/install.sh ~/.local", file=sys.stderr)
+        print(
+            f"explain: {words[0]} does not run: {error.strerror}; install it: sh dist/install.sh ~/.local",
+            file=sys.stderr,
+        )
         return 127
     sys.stderr.buffer.write(ran.stderr)
     sys.stderr.flush()
@@ -375,7 +484,10 @@ def main(words):
         return 128 - ran.returncode
     if ran.returncode:
         told = explain(words[1:], ran.returncode, ran.stderr.decode("utf-8", "replace"))
-        print(f"explain: {told or 'no cause is seen from outside; docs/FORMATS.md has the causes of each status'}", file=sys.stderr)
+        print(
+            f"explain: {told or 'no cause is seen from outside; docs/FORMATS.md has the causes of each status'}",
+            file=sys.stderr,
+        )
     return ran.returncode
 
 

@@ -49,7 +49,10 @@ WORDS = [
     ("walk photo.vts ok.path f --loaders 17", ["--loaders", "from 1 to 16"]),
     ("walk photo.vts ok.path f --batch 4097", ["--batch", "from 1 to 4096"]),
     ("walk photo.vts ok.path f --pinned 0", ["--pinned", "from 1 to 16"]),
-    ("walk photo.vts ok.path f --table swap --filter bilinear", ["--table swap", "--filter bilinear", "one of"]),
+    (
+        "walk photo.vts ok.path f --table swap --filter bilinear",
+        ["--table swap", "--filter bilinear", "one of"],
+    ),
     ("walk photo.vts ok.path f --filter linear", ["--filter", "nearest, bilinear", "linear"]),
     ("walk photo.vts ok.path f --table=words=x", ["--table", "words, swap"]),
     ("tile photo.ppm t.vts --tile 100", ["--tile", "2, 4, 8, 16, 32, 64, 128", "100"]),
@@ -79,18 +82,58 @@ WORDS = [
 ]
 # Words, the status, the program's line, and what the explanation has to name.
 FILES = [
-    ("tile photo.vts t.vts", 4, BAD + "photo.vts: bad magic", ["photo.vts is a tile store", "a PPM texture"]),
-    ("walk ok.path photo.vts f", 4, BAD + "photo.vts: bad line 1", ["photo.vts is a tile store", "a camera path", "STORE PATH PREFIX"]),
-    ("walk photo.ppm ok.path f", 4, BAD + "photo.ppm: bad magic", ["photo.ppm is a PPM texture", "a tile store"]),
-    ("replay photo.vts journal.txt ok.path r", 4, BAD + "journal.txt: bad line 1", ["journal.txt is a journal", "a camera path"]),
-    ("plain photo.vts ok.path p", 4, BAD + "photo.vts: bad magic", ["photo.vts is a tile store", "a PPM texture"]),
+    (
+        "tile photo.vts t.vts",
+        4,
+        BAD + "photo.vts: bad magic",
+        ["photo.vts is a tile store", "a PPM texture"],
+    ),
+    (
+        "walk ok.path photo.vts f",
+        4,
+        BAD + "photo.vts: bad line 1",
+        ["photo.vts is a tile store", "a camera path", "STORE PATH PREFIX"],
+    ),
+    (
+        "walk photo.ppm ok.path f",
+        4,
+        BAD + "photo.ppm: bad magic",
+        ["photo.ppm is a PPM texture", "a tile store"],
+    ),
+    (
+        "replay photo.vts journal.txt ok.path r",
+        4,
+        BAD + "journal.txt: bad line 1",
+        ["journal.txt is a journal", "a camera path"],
+    ),
+    (
+        "plain photo.vts ok.path p",
+        4,
+        BAD + "photo.vts: bad magic",
+        ["photo.vts is a tile store", "a PPM texture"],
+    ),
     ("tile nosuch.ppm t.vts", 3, FAULT, ["there is no file nosuch.ppm", "a PPM texture"]),
     ("tile phot.ppm t.vts", 3, FAULT, ["there is no file phot.ppm", "did you mean photo.ppm"]),
     ("walk nosuch.vts ok.path f", 3, FAULT, ["there is no file nosuch.vts", "a tile store"]),
     ("walk photo.vts nosuch.path f", 3, FAULT, ["there is no file nosuch.path", "a camera path"]),
-    ("replay photo.vts ok.path nosuch.txt r", 3, FAULT, ["there is no file nosuch.txt", "a journal"]),
-    ("tile photo.png t.vts", 4, BAD + "photo.png: bad magic", ["photo.png is a PNG image", "vips copy photo.png"]),
-    ("tile renamed.ppm t.vts", 4, BAD + "renamed.ppm: bad magic", ["renamed.ppm is a PNG image", "convert"]),
+    (
+        "replay photo.vts ok.path nosuch.txt r",
+        3,
+        FAULT,
+        ["there is no file nosuch.txt", "a journal"],
+    ),
+    (
+        "tile photo.png t.vts",
+        4,
+        BAD + "photo.png: bad magic",
+        ["photo.png is a PNG image", "vips copy photo.png"],
+    ),
+    (
+        "tile renamed.ppm t.vts",
+        4,
+        BAD + "renamed.ppm: bad magic",
+        ["renamed.ppm is a PNG image", "convert"],
+    ),
     ("tile jpeg.jpg t.vts", 4, BAD + "jpeg.jpg: bad magic", ["a JPEG image", "convert"]),
     ("tile p3.ppm t.vts", 4, BAD + "p3.ppm: bad magic", ["a PPM image in text", "convert"]),
     ("tile p5.pgm t.vts", 4, BAD + "p5.pgm: bad magic", ["a grey PGM image", "convert"]),
@@ -99,22 +142,67 @@ FILES = [
     ("tile other.bin t.vts", 4, BAD + "other.bin: bad magic", ["not P6", "convert"]),
     ("tile empty.ppm t.vts", 4, BAD + "empty.ppm: bad magic", ["an empty file"]),
     ("tile folder.ppm t.vts", 3, FAULT, ["folder.ppm is a folder"]),
-    ("tile cut.ppm t.vts", 4, BAD + "cut.ppm: raster of 1000 bytes, wanted 90000", ["cut off", "1000", "90000"]),
+    (
+        "tile cut.ppm t.vts",
+        4,
+        BAD + "cut.ppm: raster of 1000 bytes, wanted 90000",
+        ["cut off", "1000", "90000"],
+    ),
     ("tile big.ppm t.vts", 4, BAD + "big.ppm: bad size", ["16384", "smaller"]),
     ("plain wide.ppm ok.path p", 4, BAD + "wide.ppm: bad size", ["8192", "smaller"]),
     ("upgrade deep.vts new.vts", 4, BAD + "deep.vts: already wide", ["two bytes a sample already"]),
-    ("tile over.ppm t.vts", 4, BAD + "over.ppm: sample over maximum at byte 11", ["more than the maximum"]),
+    (
+        "tile over.ppm t.vts",
+        4,
+        BAD + "over.ppm: sample over maximum at byte 11",
+        ["more than the maximum"],
+    ),
     ("tile zero.ppm t.vts", 4, BAD + "zero.ppm: bad maximum", ["from 1 to 65535"]),
-    ("tile minus.ppm t.vts", 4, BAD + "minus.ppm: bad header at byte 3", ["header", "without a sign"]),
-    ("tile float.ppm t.vts", 4, BAD + "float.ppm: bad header at byte 4", ["header", "whole numbers"]),
-    ("tile large.ppm t.vts --tile 2", 4, BAD + "large.ppm: too many pages 1333459", ["262,144", "larger"]),
-    ("info short.vts", 4, BAD + "short.vts: length 208911, wanted 208912", ["cut off", "208911", "208912"]),
+    (
+        "tile minus.ppm t.vts",
+        4,
+        BAD + "minus.ppm: bad header at byte 3",
+        ["header", "without a sign"],
+    ),
+    (
+        "tile float.ppm t.vts",
+        4,
+        BAD + "float.ppm: bad header at byte 4",
+        ["header", "whole numbers"],
+    ),
+    (
+        "tile large.ppm t.vts --tile 2",
+        4,
+        BAD + "large.ppm: too many pages 1333459",
+        ["262,144", "larger"],
+    ),
+    (
+        "info short.vts",
+        4,
+        BAD + "short.vts: length 208911, wanted 208912",
+        ["cut off", "208911", "208912"],
+    ),
     ("info long.vts", 4, BAD + "long.vts: length 208913, wanted 208912", ["longer", "208913"]),
     ("info third.vts", 4, BAD + "third.vts: bad magic", ["VTS1 or VTS2"]),
     ("info shape.vts", 4, BAD + "shape.vts: bad geometry", ["no store has"]),
-    ("walk photo.vts ok.path f --frames 2 --pinned 16", 5, "vtex: 2 frames, pinned pages need 17", ["17", "--pinned"]),
-    ("walk four.vts two.path f --frames 2 --settled", 5, "vtex: picture 0 wants 2 pages, room for 1", ["picture 0", "by 1 or more"]),
-    ("replay photo.vts ok.path cut.txt r", 4, BAD + "cut.txt: bad line 2", ["cut.txt", "journal.txt of that walk"]),
+    (
+        "walk photo.vts ok.path f --frames 2 --pinned 16",
+        5,
+        "vtex: 2 frames, pinned pages need 17",
+        ["17", "--pinned"],
+    ),
+    (
+        "walk four.vts two.path f --frames 2 --settled",
+        5,
+        "vtex: picture 0 wants 2 pages, room for 1",
+        ["picture 0", "by 1 or more"],
+    ),
+    (
+        "replay photo.vts ok.path cut.txt r",
+        4,
+        BAD + "cut.txt: bad line 2",
+        ["cut.txt", "journal.txt of that walk"],
+    ),
     ("tile photo.ppm nodir/t.vts", 3, FAULT, ["the folder nodir is not there", "mkdir -p nodir"]),
     ("walk photo.vts ok.path out/f", 3, FAULT, ["the folder out is not there"]),
     ("walk photo.vts ok.path f --journal out/j.txt", 3, FAULT, ["the folder out is not there"]),
@@ -131,7 +219,11 @@ PATHS = [
     (PATH.replace("at 0", "at 0.5"), "bad line 3", ["u is 0.5", "1/256 texel"]),
     (PATH.replace("size ", "size  "), "bad line 1", ["one blank"]),
     (PATH.replace("16\n", "16\n\n"), "bad line 3", ["empty"]),
-    ("size 32 20\nfocal 16\nto 3 0 0 65536 16384 0\n", "no key at line 3", ["the first key is an at"]),
+    (
+        "size 32 20\nfocal 16\nto 3 0 0 65536 16384 0\n",
+        "no key at line 3",
+        ["the first key is an at"],
+    ),
     (PATH + "to 9999 0 0 65536 16384 0\n", "too many pictures", ["9,999"]),
     (PATH.replace("32", "4096"), "bad line 1", ["width is 4096", "from 1 to 2048"]),
     (PATH.replace("focal 16", "focal 0"), "bad line 2", ["focal number is 0", "from 1 to 4096"]),
@@ -159,7 +251,13 @@ def say(good, what):
 def texture(name, width, height, most=255, head=None, body=None):
     with open(name, "wb") as file:
         file.write(head or b"P6\n%d %d\n%d\n" % (width, height, most))
-        file.write(bytes((7 * place) % 251 for place in range(3 * width * height * (1 if most < 256 else 2))) if body is None else body)
+        file.write(
+            bytes(
+                (7 * place) % 251 for place in range(3 * width * height * (1 if most < 256 else 2))
+            )
+            if body is None
+            else body
+        )
 
 
 def chunk(kind, data):
@@ -176,13 +274,33 @@ def make_files(program):
     write("ok.path", PATH)
     # Two pixels, of the pages 0 and 1 of a texture of four columns and rows: the smallest walk of docs/ENGINES.md.
     write("two.path", "size 2 1\nfocal 1\nat 0 0 256 16384 0\n")
-    for words in ("tile photo.ppm photo.vts", "walk photo.vts ok.path w", "gen 1 2000 2000 large.ppm", "gen 0 4 4 four.ppm", "tile four.ppm four.vts --tile 2"):
+    for words in (
+        "tile photo.ppm photo.vts",
+        "walk photo.vts ok.path w",
+        "gen 1 2000 2000 large.ppm",
+        "gen 0 4 4 four.ppm",
+        "tile four.ppm four.vts --tile 2",
+    ):
         subprocess.run([program, *words.split()], check=True, stdout=subprocess.DEVNULL)
     texture("deep.ppm", 64, 64, 65535)
     subprocess.run([program, "tile", "deep.ppm", "deep.vts"], check=True, stdout=subprocess.DEVNULL)
-    png = b"\x89PNG\r\n\x1a\n" + chunk(b"IHDR", struct.pack(">IIBBBBB", 4, 4, 8, 2, 0, 0, 0)) + chunk(b"IDAT", zlib.compress(bytes(52))) + chunk(b"IEND", b"")
-    contents = {"photo.png": png, "renamed.ppm": png, "jpeg.jpg": b"\xff\xd8\xff\xe0" + bytes(100), "p3.ppm": "P3\n2 2\n255\n" + "1 2 3 " * 4 + "\n",
-                "p5.pgm": b"P5\n4 4\n255\n" + bytes(16), "p7.pam": b"P7\nWIDTH 4\n" + bytes(64), "tif.tif": b"II*\0" + bytes(100), "other.bin": b"abcd" * 9, "empty.ppm": b""}
+    png = (
+        b"\x89PNG\r\n\x1a\n"
+        + chunk(b"IHDR", struct.pack(">IIBBBBB", 4, 4, 8, 2, 0, 0, 0))
+        + chunk(b"IDAT", zlib.compress(bytes(52)))
+        + chunk(b"IEND", b"")
+    )
+    contents = {
+        "photo.png": png,
+        "renamed.ppm": png,
+        "jpeg.jpg": b"\xff\xd8\xff\xe0" + bytes(100),
+        "p3.ppm": "P3\n2 2\n255\n" + "1 2 3 " * 4 + "\n",
+        "p5.pgm": b"P5\n4 4\n255\n" + bytes(16),
+        "p7.pam": b"P7\nWIDTH 4\n" + bytes(64),
+        "tif.tif": b"II*\0" + bytes(100),
+        "other.bin": b"abcd" * 9,
+        "empty.ppm": b"",
+    }
     for name, data in contents.items():
         write(name, data)
     os.mkdir("folder.ppm")
@@ -195,7 +313,12 @@ def make_files(program):
     texture("float.ppm", 4, 4, head=b"P6\n4.0 4\n255\n")
     with open("photo.vts", "rb") as file:
         store = file.read()
-    for name, data in (("short", store[:-1]), ("long", store + b"x"), ("third", b"VTS3" + store[4:]), ("shape", store[:4] + bytes(4) + store[8:])):
+    for name, data in (
+        ("short", store[:-1]),
+        ("long", store + b"x"),
+        ("third", b"VTS3" + store[4:]),
+        ("shape", store[:4] + bytes(4) + store[8:]),
+    ):
         write(name + ".vts", data)
     with open("journal.txt", "rb") as file:
         journal = file.read()
@@ -203,7 +326,9 @@ def make_files(program):
 
 
 def run(program, words, python=sys.executable, **more):
-    ran = subprocess.run([python, TOOL, program, *words], stdout=subprocess.PIPE, stderr=subprocess.PIPE, **more)
+    ran = subprocess.run(
+        [python, TOOL, program, *words], stdout=subprocess.PIPE, stderr=subprocess.PIPE, **more
+    )
     return ran.returncode, ran.stdout, ran.stderr.decode("utf-8", "replace")
 
 
@@ -211,8 +336,16 @@ def case(program, words, status, line, named, **more):
     had, out, error = run(program, words, **more)
     lines = error.splitlines()
     told = lines[-1] if lines else ""
-    good = had == status and lines[:-1] == [line] and told.startswith("explain: ") and all(it in told for it in named)
-    say(good, f"{' '.join(map(repr, words))}: status {had}, {error.strip()}; wanted {status}, {line}, {named}")
+    good = (
+        had == status
+        and lines[:-1] == [line]
+        and told.startswith("explain: ")
+        and all(it in told for it in named)
+    )
+    say(
+        good,
+        f"{' '.join(map(repr, words))}: status {had}, {error.strip()}; wanted {status}, {line}, {named}",
+    )
 
 
 def as_nobody():
@@ -237,7 +370,13 @@ def main(words):
             case(program, text.split(), status, line, named)
         for number, (text, flaw, named) in enumerate(PATHS):
             write(f"{number}.path", text)
-            case(program, ["walk", "photo.vts", f"{number}.path", "p", "--journal", "pj.txt"], 4, f"{BAD}{number}.path: {flaw}", named)
+            case(
+                program,
+                ["walk", "photo.vts", f"{number}.path", "p", "--journal", "pj.txt"],
+                4,
+                f"{BAD}{number}.path: {flaw}",
+                named,
+            )
         os.mkdir("closed")
         os.chmod("closed", 0o555)
         python = "/usr/bin/python3"
@@ -246,23 +385,54 @@ def main(words):
             copied = os.path.join(room, "vtex")
             write(copied, open(program, "rb").read())
             os.chmod(copied, 0o755)
-            case(copied, ["tile", "photo.ppm", "closed/t.vts"], 3, FAULT, ["the folder closed may not be written"], python=python, preexec_fn=as_nobody)
+            case(
+                copied,
+                ["tile", "photo.ppm", "closed/t.vts"],
+                3,
+                FAULT,
+                ["the folder closed may not be written"],
+                python=python,
+                preexec_fn=as_nobody,
+            )
             os.chmod("photo.ppm", 0)
-            case(copied, ["tile", "photo.ppm", "closed/t.vts"], 3, FAULT, ["photo.ppm may not be read"], python=python, preexec_fn=as_nobody)
+            case(
+                copied,
+                ["tile", "photo.ppm", "closed/t.vts"],
+                3,
+                FAULT,
+                ["photo.ppm may not be read"],
+                python=python,
+                preexec_fn=as_nobody,
+            )
             os.chmod("photo.ppm", 0o644)
         else:
             print("skipped: files that may not be read or written, which root alone can try")
         with open("/dev/full", "wb") as full:
-            ran = subprocess.run([sys.executable, TOOL, program, "info", "photo.vts"], stdout=full, stderr=subprocess.PIPE, text=True)
-        say(ran.returncode == 3 and "output" in ran.stderr.splitlines()[-1], "a full output: " + ran.stderr)
+            ran = subprocess.run(
+                [sys.executable, TOOL, program, "info", "photo.vts"],
+                stdout=full,
+                stderr=subprocess.PIPE,
+                text=True,
+            )
+        say(
+            ran.returncode == 3 and "output" in ran.stderr.splitlines()[-1],
+            "a full output: " + ran.stderr,
+        )
         # What succeeds is left as it is, byte for byte.
         for text in ("info photo.vts", "tile -- photo.ppm again.vts", "trial 7"):
-            own = subprocess.run([program, *text.split()], stdout=subprocess.PIPE, stderr=subprocess.PIPE)
+            own = subprocess.run(
+                [program, *text.split()], stdout=subprocess.PIPE, stderr=subprocess.PIPE
+            )
             had = run(program, text.split())
             say(had == (0, own.stdout, "") and own.returncode == 0, f"{text}: {had}")
         status, _, error = run(os.path.join(room, "none"), ["info"])
-        say(status == 127 and "does not run" in error and "dist/install.sh" in error, f"no program: {status} {error}")
-        ran = subprocess.run([sys.executable, TOOL], stdout=subprocess.PIPE, stderr=subprocess.PIPE, text=True)
+        say(
+            status == 127 and "does not run" in error and "dist/install.sh" in error,
+            f"no program: {status} {error}",
+        )
+        ran = subprocess.run(
+            [sys.executable, TOOL], stdout=subprocess.PIPE, stderr=subprocess.PIPE, text=True
+        )
         say(ran.returncode == 2 and "explain.py vtex" in ran.stderr, "no words: " + ran.stderr)
         os.chdir("/")
     print(f"{passed} passed, {failed} failed")

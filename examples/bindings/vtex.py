@@ -80,7 +80,11 @@ def library():
     """Returns the shared library, which the first call loads. Raises OSError where there is none."""
     global _library
     if _library is None:
-        beside = os.path.normpath(os.path.join(os.path.dirname(os.path.abspath(__file__)), "..", "..", "lib", "libvtex.so.1"))
+        beside = os.path.normpath(
+            os.path.join(
+                os.path.dirname(os.path.abspath(__file__)), "..", "..", "lib", "libvtex.so.1"
+            )
+        )
         named = os.environ.get("VTEX_LIBRARY")
         tried = [named] if named else ["libvtex.so.1", beside]
         for name in tried:
@@ -90,10 +94,14 @@ def library():
             except OSError as error:
                 last = error
         else:
-            raise OSError(f"libvtex.so.1 was not found ({last}); install it by `sh dist/install.sh PREFIX`, or name it in VTEX_LIBRARY")
+            raise OSError(
+                f"libvtex.so.1 was not found ({last}); install it by `sh dist/install.sh PREFIX`, or name it in VTEX_LIBRARY"
+            )
         for name, kinds in _CALLS.items():
             call = getattr(found, name)
-            call.argtypes, call.restype = [ctypes.c_void_p if kind == "p" else kind for kind in kinds], _u32
+            call.argtypes, call.restype = [
+                ctypes.c_void_p if kind == "p" else kind for kind in kinds
+            ], _u32
         found.vtex_cache_size.argtypes, found.vtex_cache_size.restype = [], _size
         found.vtex_cache_init.argtypes, found.vtex_cache_init.restype = [ctypes.c_void_p], None
         _library = found
@@ -120,10 +128,20 @@ class Store:
         try:
             head, length = self._file.read(16), self._file.seek(0, os.SEEK_END)
             self._store = _Store()
-            _done(name, self._library.vtex_store_open(head, len(head), length, ctypes.byref(self._store)))
+            _done(
+                name,
+                self._library.vtex_store_open(head, len(head), length, ctypes.byref(self._store)),
+            )
             shape = self._store.shape
-            self.width, self.height, self.tile, self.depth = shape.width, shape.height, shape.tile, self._store.depth
-            self.levels, self.pages = self._number("vtex_level_count"), self._number("vtex_page_count")
+            self.width, self.height, self.tile, self.depth = (
+                shape.width,
+                shape.height,
+                shape.tile,
+                self._store.depth,
+            )
+            self.levels, self.pages = self._number("vtex_level_count"), self._number(
+                "vtex_page_count"
+            )
             self.frames = frames
             if not isinstance(frames, int) or not 1 <= frames <= 65535:
                 raise VtexError(f"{frames} frames", 2)
@@ -163,15 +181,25 @@ class Store:
         """
         info = self._level(level)
         numbers = (x, y, width, height)
-        if not all(isinstance(n, int) for n in numbers) or min(numbers) < 0 or x + width > info.width or y + height > info.height:
-            raise VtexError(f"a part of {width}x{height} at ({x}, {y}) of level {level}, which has {info.width}x{info.height}", 2)
+        if (
+            not all(isinstance(n, int) for n in numbers)
+            or min(numbers) < 0
+            or x + width > info.width
+            or y + height > info.height
+        ):
+            raise VtexError(
+                f"a part of {width}x{height} at ({x}, {y}) of level {level}, which has {info.width}x{info.height}",
+                2,
+            )
         size = 3 * self.depth
         out = bytearray(size * width * height)
         if not out:
             return bytes(out)
         columns = range(x // self.tile, (x + width - 1) // self.tile + 1)
         rows = range(y // self.tile, (y + height - 1) // self.tile + 1)
-        pages = [(self._page(level, column, row), column, row) for row in rows for column in columns]
+        pages = [
+            (self._page(level, column, row), column, row) for row in rows for column in columns
+        ]
         # One frame is the root's, so a group of pages that fits beside it stays in memory until it is copied.
         at_once = max(self.frames - 1, 1) if load else len(pages)
         for first in range(0, len(pages), at_once):
@@ -186,8 +214,12 @@ class Store:
         """Returns `region` as a numpy array of height, width and 3, of uint8 or uint16. Needs numpy."""
         import numpy
 
-        data = numpy.frombuffer(self.region(level, x, y, width, height, load), dtype=">u2" if self.depth == 2 else "u1")
-        return data.reshape(height, width, 3).astype(numpy.uint16 if self.depth == 2 else numpy.uint8)
+        data = numpy.frombuffer(
+            self.region(level, x, y, width, height, load), dtype=">u2" if self.depth == 2 else "u1"
+        )
+        return data.reshape(height, width, 3).astype(
+            numpy.uint16 if self.depth == 2 else numpy.uint8
+        )
 
     def residency(self):
         """Returns the pages that are in memory: a list of (level, column, row, frame), coarse levels last."""
@@ -196,8 +228,15 @@ class Store:
         for level in range(self.levels):
             info = self._level(level)
             table = (_u32 * (info.columns * info.rows))()
-            _done(f"level {level}", self._library.vtex_cache_table(self._cache, level, table, len(table)))
-            found += [(level, place % info.columns, place // info.columns, frame - 1) for place, frame in enumerate(table) if frame]
+            _done(
+                f"level {level}",
+                self._library.vtex_cache_table(self._cache, level, table, len(table)),
+            )
+            found += [
+                (level, place % info.columns, place // info.columns, frame - 1)
+                for place, frame in enumerate(table)
+                if frame
+            ]
         return found
 
     # -- what is below is not for callers
@@ -208,7 +247,10 @@ class Store:
 
     def _number(self, call):
         number = _u32()
-        _done(call, getattr(self._library, call)(ctypes.byref(self._store.shape), ctypes.byref(number)))
+        _done(
+            call,
+            getattr(self._library, call)(ctypes.byref(self._store.shape), ctypes.byref(number)),
+        )
         return number.value
 
     def _level(self, level):
@@ -216,17 +258,29 @@ class Store:
         info = _Level()
         if not isinstance(level, int) or not 0 <= level < self.levels:
             raise VtexError(f"level {level} of {self.levels}", 2)
-        _done(f"level {level}", self._library.vtex_level(ctypes.byref(self._store.shape), level, ctypes.byref(info)))
+        _done(
+            f"level {level}",
+            self._library.vtex_level(ctypes.byref(self._store.shape), level, ctypes.byref(info)),
+        )
         return info
 
     def _page(self, level, column, row):
         page = _u32()
-        _done("a page", self._library.vtex_page_at(ctypes.byref(self._store.shape), ctypes.byref(_Name(level, column, row)), ctypes.byref(page)))
+        _done(
+            "a page",
+            self._library.vtex_page_at(
+                ctypes.byref(self._store.shape),
+                ctypes.byref(_Name(level, column, row)),
+                ctypes.byref(page),
+            ),
+        )
         return page.value
 
     def _upload(self):
         """Reads the tiles of the pages that the last settling mapped, and forgets those of the pages that it took out."""
-        changes = (_Change * self._library.vtex_cache_changes(self._cache, ctypes.byref(_Change()), 0))()
+        changes = (
+            _Change * self._library.vtex_cache_changes(self._cache, ctypes.byref(_Change()), 0)
+        )()
         self._library.vtex_cache_changes(self._cache, changes, len(changes))
         for change in changes:
             if not change.mapped:
@@ -236,19 +290,28 @@ class Store:
 
     def _tile(self, page):
         where = _Range()
-        _done(f"page {page}", self._library.vtex_store_tile(ctypes.byref(self._store), page, ctypes.byref(where)))
+        _done(
+            f"page {page}",
+            self._library.vtex_store_tile(ctypes.byref(self._store), page, ctypes.byref(where)),
+        )
         self._file.seek(where.start)
         data = self._file.read(where.length)
         if len(data) != where.length:
-            raise OSError(f"{self._file.name}: the tile of page {page} is not all there; the file was changed")
+            raise OSError(
+                f"{self._file.name}: the tile of page {page} is not all there; the file was changed"
+            )
         return data
 
     def _load(self, pages):
         """Loads pages until all are in memory. They fit beside the root, and the cache gives up no page that is wanted."""
         wanted = (_u32 * len(pages))(*pages)
         while True:
-            _done("a pass", self._library.vtex_cache_pass_pages(self._cache, wanted, len(wanted), 64))
-            loads = (_Load * self._library.vtex_cache_loads(self._cache, ctypes.byref(_Load()), 0))()
+            _done(
+                "a pass", self._library.vtex_cache_pass_pages(self._cache, wanted, len(wanted), 64)
+            )
+            loads = (
+                _Load * self._library.vtex_cache_loads(self._cache, ctypes.byref(_Load()), 0)
+            )()
             self._library.vtex_cache_loads(self._cache, loads, len(loads))
             if not loads:
                 return
@@ -268,10 +331,17 @@ class Store:
         """Copies the texels of a page that lie inside a part of its level."""
         x, y, width, height = part
         found = _Place()
-        _done(f"page {page}", self._library.vtex_cache_look_up(self._cache, page, ctypes.byref(found)))
+        _done(
+            f"page {page}", self._library.vtex_cache_look_up(self._cache, page, ctypes.byref(found))
+        )
         if exact and found.page != page:
             raise VtexError(f"page {page}, whose {self.frames} frames are too few", 2)
-        tile, side, size, up = self._tiles[found.frame], self.tile, 3 * self.depth, found.level - level
+        tile, side, size, up = (
+            self._tiles[found.frame],
+            self.tile,
+            3 * self.depth,
+            found.level - level,
+        )
         left, right = max(x, column * side), min(x + width, (column + 1) * side)
         for line in range(max(y, row * side), min(y + height, (row + 1) * side)):
             to, start = size * ((line - y) * width + left - x), ((line >> up) % side) * side
