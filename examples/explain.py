@@ -137,12 +137,18 @@ class Words:
             or "--help" in words
             or "-h" in words
         ):
-            return "the program prints no help and no version; read the manual: man vtex, or docs/FORMATS.md"
+            return (
+                "the program prints no help and no version; read the manual: man vtex, or"
+                " docs/FORMATS.md"
+            )
         if not words:
             return f"no command is given; the commands are {', '.join(COMMANDS)}"
         self.command = words[0]
         if self.command.startswith("-"):
-            return "the command comes first, and the options behind it: vtex walk STORE PATH PREFIX --frames 64"
+            return (
+                "the command comes first, and the options behind it: vtex walk STORE PATH PREFIX"
+                " --frames 64"
+            )
         if self.command not in COMMANDS:
             return f"there is no command {self.command}" + (
                 like(self.command, COMMANDS) or f"; the commands are {', '.join(COMMANDS)}"
@@ -161,12 +167,17 @@ class Words:
                 if flaw:
                     return flaw
             elif word.startswith("-") and len(word) > 1:
-                return f"there is no option {word}; the options of {self.command} begin with --, and a name that begins with - stands behind --, as in: vtex {self.command} -- {word}"
+                return (
+                    f"there is no option {word}; the options of {self.command} begin with --, and a"
+                    f" name that begins with - stands behind --, as in: vtex {self.command} --"
+                    f" {word}"
+                )
             else:
                 plain.append(word)
         if len(plain) != len(form):
             return (
-                f"{self.command} takes {named(len(form), 'word')} ({' '.join(form)}) and got {len(plain)}"
+                f"{self.command} takes {named(len(form), 'word')} ({' '.join(form)}) and got"
+                f" {len(plain)}"
                 + (f" ({' '.join(plain)})" if plain else "")
                 + self.hint(plain, form)
             )
@@ -181,7 +192,10 @@ class Words:
             if self.options.get(name, usual) != usual
         ]
         if len(changed) > 1 and self.command == "walk":
-            return f"a walk takes one of --table swap, --rows shared and --filter bilinear, and not {' and '.join(changed)} together"
+            return (
+                "a walk takes one of --table swap, --rows shared and --filter bilinear, and not"
+                f" {' and '.join(changed)} together"
+            )
         return self.clash()
 
     def take_option(self, word, rest, known):
@@ -224,7 +238,10 @@ class Words:
             picture = re.compile(re.escape(names["PREFIX"]) + r"[0-9]{4}\.ppm", re.DOTALL)
             for name in read + ([journal] if journal else []):
                 if picture.fullmatch(name):
-                    return f"{name} is the name of a picture of the prefix {names['PREFIX']}, which would be written over it; take another prefix"
+                    return (
+                        f"{name} is the name of a picture of the prefix {names['PREFIX']}, which"
+                        " would be written over it; take another prefix"
+                    )
             if journal in read and command in ("walk", "replay"):
                 return f"the journal and another file of the command are both named {journal}" + (
                     "; give the journal another name by --journal"
@@ -251,7 +268,10 @@ def flaw_of_texels(words):
         side = int.from_bytes(file.read(16)[12:16], "big")
     frames = int(words.options.get("frames", 64))
     if side and frames * side * side > MOST_TEXELS:
-        return f"the tiles of {store} have a side of {side}, so --frames is at most {MOST_TEXELS // side**2}, and not {frames}"
+        return (
+            f"the tiles of {store} have a side of {side}, so --frames is at most"
+            f" {MOST_TEXELS // side**2}, and not {frames}"
+        )
     return None
 
 
@@ -348,20 +368,34 @@ def flaw_of_content(words, line):
         return flaw_of_path(name, flaw)
     if flaw == "bad magic":
         return (
-            f"{name} is {wanted} by no means: its first bytes are not {'P6' if word == 'TEXTURE' else 'VTS1 or VTS2'}"
+            f"{name} is {wanted} by no means: its first bytes are not"
+            f" {'P6' if word == 'TEXTURE' else 'VTS1 or VTS2'}"
             + (convert(name) if word == "TEXTURE" else "")
         )
     if flaw == "bad size":
         most = 8192 if words.command == "plain" else 16384
-        return f"a side of {name} is 0 or more than {most} texels, the most that {words.command} takes; make it smaller: vips resize {name} small.ppm 0.5"
+        return (
+            f"a side of {name} is 0 or more than {most} texels, the most that"
+            f" {words.command} takes; make it smaller: vips resize {name} small.ppm 0.5"
+        )
     if flaw == "bad maximum":
         return f"the maximum of the samples in the header of {name} is not from 1 to 65535"
     if flaw.startswith("bad header"):
-        return f"the header of {name} is P6, then width, height and maximum as whole numbers without a sign; at the byte that is named it is not"
+        return (
+            f"the header of {name} is P6, then width, height and maximum as whole numbers without a"
+            " sign; at the byte that is named it is not"
+        )
     if flaw.startswith("raster"):
-        return f"{name} is cut off: {flaw.replace('raster of ', 'it has ').replace('wanted', 'and its header asks for')}; write or download it again"
+        return (
+            f"{name} is cut off:"
+            f" {flaw.replace('raster of ', 'it has ').replace('wanted', 'and its header asks for')};"
+            " write or download it again"
+        )
     if flaw.startswith("sample over"):
-        return f"a sample of {name} is more than the maximum that its header names; the header or the samples are wrong, so convert the image again"
+        return (
+            f"a sample of {name} is more than the maximum that its header names; the header or the"
+            " samples are wrong, so convert the image again"
+        )
     if flaw.startswith("too many pages"):
         return (
             f"with this tile side {name} has more than 262,144 pages; take a larger one: --tile 64"
@@ -370,11 +404,18 @@ def flaw_of_content(words, line):
         return f"{name} has two bytes a sample already, so there is nothing to upgrade"
     if flaw.startswith("length"):
         have, want = map(int, re.findall(r"\d+", flaw))
-        return f"{name} has {have} bytes where its header asks for {want}: it is {'cut off' if have < want else 'longer than it should be'}; write or download it again"
+        return (
+            f"{name} has {have} bytes where its header asks for {want}: it is"
+            f" {'cut off' if have < want else 'longer than it should be'}; write or download it"
+            " again"
+        )
     if flaw == "bad geometry":
         return f"the header of {name} names sides or a tile side that no store has; it was damaged"
     if word == "JOURNAL":
-        return f"{name} is not the journal of a walk of this store and path at the line that is named ({flaw}); take the journal.txt of that walk"
+        return (
+            f"{name} is not the journal of a walk of this store and path at the line that is named"
+            f" ({flaw}); take the journal.txt of that walk"
+        )
     return None
 
 
@@ -385,7 +426,10 @@ def flaw_of_path(name, flaw):
         return f"{name} has more than 9,999 pictures, the most of a path; cut it in two"
     number = int(re.search(r"\d+", flaw).group())
     if flaw.startswith("no key"):
-        return f"line {number} of {name} goes on from a camera, and there is none before it; the first key is an at"
+        return (
+            f"line {number} of {name} goes on from a camera, and there is none before it; the first"
+            " key is an at"
+        )
     line = lines[number - 1] if number <= len(lines) else b""
     text = line.decode("utf-8", "replace")
     at = f"line {number} of {name}"
@@ -397,9 +441,15 @@ def flaw_of_path(name, flaw):
             else "its line feed is missing; end the last line: echo >>" + name
         )
     if b"\r" in line:
-        return f"{at} ends with a carriage return; a path has line feeds alone: sed -i 's/\\r$//' {name}"
+        return (
+            f"{at} ends with a carriage return; a path has line feeds alone: sed -i 's/\\r$//'"
+            f" {name}"
+        )
     if line.startswith(b"\xef\xbb\xbf"):
-        return f"{name} begins with a byte order mark; take it out: sed -i '1s/^\\xef\\xbb\\xbf//' {name}"
+        return (
+            f"{name} begins with a byte order mark; take it out: sed -i '1s/^\\xef\\xbb\\xbf//'"
+            f" {name}"
+        )
     if text.lstrip().startswith(("#", "//", ";")):
         return f"{at} is a comment; a path has none"
     if not text.strip():
@@ -423,10 +473,16 @@ def flaw_of_path(name, flaw):
     if word not in right:
         return f"{at} has to be {form}, and begins with {word}" + like(word, right)
     if len(fields) != len(bounds[word]):
-        return f"{at} has to have {named(len(bounds[word]), 'number')} behind {word} ({form}), and has {len(fields)}"
+        return (
+            f"{at} has to have {named(len(bounds[word]), 'number')} behind {word} ({form}), and has"
+            f" {len(fields)}"
+        )
     for letter, field, (least, most) in zip(letters[word], fields, bounds[word]):
         if not re.fullmatch(r"0|-?[1-9][0-9]*", field):
-            return f"{at}: {letter} is {field}, and has to be a whole number without + or leading zeros (u, v and h are in 1/256 texel, c and s in 1/16384)"
+            return (
+                f"{at}: {letter} is {field}, and has to be a whole number without + or leading"
+                " zeros (u, v and h are in 1/256 texel, c and s in 1/16384)"
+            )
         if not least <= int(field) <= most:
             return f"{at}: {letter} is {field}, and has to be from {least} to {most}"
     return None
@@ -435,11 +491,17 @@ def flaw_of_path(name, flaw):
 def flaw_of_frames(line):
     found = re.search(r"(\d+) frames, pinned pages need (\d+)", line)
     if found:
-        return f"--frames is at least the number of pinned pages, {found.group(2)}; raise it, or lower --pinned"
+        return (
+            f"--frames is at least the number of pinned pages, {found.group(2)}; raise it, or lower"
+            " --pinned"
+        )
     found = re.search(r"picture (\d+) wants (\d+) pages, room for (\d+)", line)
     if found:
         frames = int(found.group(2)) - int(found.group(3))
-        return f"picture {found.group(1)} needs {frames} frames more than there are, so raise --frames by {frames} or more; a walk without --settled draws it with coarser pages"
+        return (
+            f"picture {found.group(1)} needs {frames} frames more than there are, so raise --frames"
+            f" by {frames} or more; a walk without --settled draws it with coarser pages"
+        )
     return None
 
 
@@ -461,7 +523,10 @@ def explain(words, status, line):
     if status == 5:
         return flaw_of_frames(line)
     if status == 1:
-        return "the system had no memory left; take fewer frames or a smaller texture, or close other programs"
+        return (
+            "the system had no memory left; take fewer frames or a smaller texture, or close other"
+            " programs"
+        )
     return None
 
 
@@ -473,7 +538,10 @@ def main(words):
         ran = subprocess.run(words, stderr=subprocess.PIPE)
     except OSError as error:
         print(
-            f"explain: {words[0]} does not run: {error.strerror}; install it: sh dist/install.sh ~/.local",
+            (
+                f"explain: {words[0]} does not run: {error.strerror}; install it: sh"
+                " dist/install.sh ~/.local"
+            ),
             file=sys.stderr,
         )
         return 127
@@ -485,7 +553,10 @@ def main(words):
     if ran.returncode:
         told = explain(words[1:], ran.returncode, ran.stderr.decode("utf-8", "replace"))
         print(
-            f"explain: {told or 'no cause is seen from outside; docs/FORMATS.md has the causes of each status'}",
+            (
+                "explain:"
+                f" {told or 'no cause is seen from outside; docs/FORMATS.md has the causes of each status'}"
+            ),
             file=sys.stderr,
         )
     return ran.returncode

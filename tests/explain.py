@@ -344,7 +344,10 @@ def case(program, words, status, line, named, **more):
     )
     say(
         good,
-        f"{' '.join(map(repr, words))}: status {had}, {error.strip()}; wanted {status}, {line}, {named}",
+        (
+            f"{' '.join(map(repr, words))}: status {had}, {error.strip()}; wanted {status}, {line},"
+            f" {named}"
+        ),
     )
 
 

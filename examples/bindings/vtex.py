@@ -95,7 +95,8 @@ def library():
                 last = error
         else:
             raise OSError(
-                f"libvtex.so.1 was not found ({last}); install it by `sh dist/install.sh PREFIX`, or name it in VTEX_LIBRARY"
+                f"libvtex.so.1 was not found ({last}); install it by `sh dist/install.sh PREFIX`,"
+                " or name it in VTEX_LIBRARY"
             )
         for name, kinds in _CALLS.items():
             call = getattr(found, name)
@@ -188,7 +189,10 @@ class Store:
             or y + height > info.height
         ):
             raise VtexError(
-                f"a part of {width}x{height} at ({x}, {y}) of level {level}, which has {info.width}x{info.height}",
+                (
+                    f"a part of {width}x{height} at ({x}, {y}) of level {level}, which has"
+                    f" {info.width}x{info.height}"
+                ),
                 2,
             )
         size = 3 * self.depth

@@ -1,0 +1,340 @@
+#!/usr/bin/env python3
+"""Studies page replacement: what a camera path asks of a page cache, what a walk's cache did, and what other policies would have done.
+
+    study.py stream STORE PATH                  the reference stream: a CSV line for each page that each picture wants
+    study.py passes STORE PATH JOURNAL          a CSV line for each pass of a walk; a summary goes to the error output
+    study.py misses STORE PATH [--frames LIST] [--program VTEX] [--figure NAME.svg]
+                                                tiles read over the frames by OPT, LRU, CLOCK and FIFO, beside `vtex walk`
+
+--filter bilinear counts what a walk with that filter wants. LIST is as 16,32,64. VTEX is the program, dist/vtex where it is left out.
+
+It reads the 16 bytes of a store's header, a path and a journal, by docs/FORMATS.md alone, and shares no code with vtex. Needs Python 3.9 and no package.
+"""
+import argparse
+import heapq
+import os
+import subprocess
+import sys
+import tempfile
+from collections import Counter, OrderedDict
+
+TOP = os.path.dirname(os.path.dirname(os.path.dirname(os.path.abspath(__file__))))
+FRAMES = "8,12,16,24,32,48,64,96,128,192,256"
+
+
+class Flaw(Exception):
+    """A file or a word that cannot be taken; the text says why."""
+
+
+class Store:
+    """The shape of a store's pages: sides, tile side, levels, and the index of the first page of each level."""
+
+    def __init__(self, name):
+        with open(name, "rb") as file:
+            head = file.read(16)
+        if len(head) < 16 or head[:4] not in (b"VTS1", b"VTS2"):
+            raise Flaw(f"{name} is no tile store")
+        self.depth = head[3] - ord("0")
+        self.width, self.height, self.tile = (int.from_bytes(head[at : at + 4], "big") for at in (4, 8, 12))
+        self.tile_bytes = 3 * self.depth * self.tile**2
+        # Of each level: sides in texels, columns and rows of pages, first page.
+        self.levels, self.pages, width, height = [], 0, self.width, self.height
+        while True:
+            columns, rows = -(-width // self.tile), -(-height // self.tile)
+            self.levels.append((width, height, columns, rows, self.pages))
+            self.pages += columns * rows
+            if width <= self.tile and height <= self.tile:
+                break
+            width, height = (width + 1) // 2, (height + 1) // 2
+        self.root = self.pages - 1
+
+    def index(self, level, column, row):
+        return self.levels[level][4] + row * self.levels[level][2] + column
+
+    def name(self, page):
+        """Returns the level, the column and the row of a page."""
+        level = max(k for k, numbers in enumerate(self.levels) if numbers[4] <= page)
+        row, column = divmod(page - self.levels[level][4], self.levels[level][2])
+        return level, column, row
+
+
+class Path:
+    """The pictures' sides, the focal number, and a camera for each picture."""
+
+    def __init__(self, name):
+        try:
+            with open(name, encoding="ascii") as file:
+                lines = [line.split(" ") for line in file.read().splitlines()]
+            (_, self.width, self.height), (_, self.focal) = ([lines[0][0], *map(int, lines[0][1:])], [lines[1][0], int(lines[1][1])])
+            self.cameras = []
+            for word, *fields in lines[2:]:
+                steps, *camera = [1, *map(int, fields)] if word == "at" else map(int, fields)
+                first = self.cameras[-1] if self.cameras else camera
+                self.cameras += [[a + (b - a) * step // steps for a, b in zip(first, camera)] for step in range(1, steps + 1)]
+        except (ValueError, IndexError) as error:
+            raise Flaw(f"{name} is no camera path: {error}") from None
+
+    def wanted(self, store, picture, is_bilinear):
+        """Returns how many pixels of a picture want each page, the coarsest pages first, those of many pixels before those of few."""
+        u, v, h, c, s = self.cameras[picture]
+        pixels = Counter()
+        for y in range(self.height):
+            z, p = h * self.focal // (y + 1), h // (y + 1)
+            level = 0
+            while level + 1 < len(store.levels) and 256 << (level + 1) <= p:
+                level += 1
+            width, height, columns, _, first = store.levels[level]
+            for x in range(self.width):
+                across = (u + z * c // 16384 - (2 * x + 1 - self.width) * p * s // 32768) % (256 * store.width)
+                down = (v + z * s // 16384 + (2 * x + 1 - self.width) * p * c // 32768) % (256 * store.height)
+                column, row = across >> level + 8, down >> level + 8
+                texels = [(column, row)]
+                if is_bilinear:
+                    right, below = (column + 1) % width, (row + 1) % height
+                    texels += [(right, row), (column, below), (right, below)]
+                for column, row in texels:
+                    pixels[first + row // store.tile * columns + column // store.tile] += 1
+        return sorted(pixels.items(), key=lambda it: (-store.name(it[0])[0], -it[1], it[0]))
+
+
+def stream_of(store, path, is_bilinear):
+    """Returns the wanted list of each picture."""
+    return [path.wanted(store, picture, is_bilinear) for picture in range(len(path.cameras))]
+
+
+# -- the policies: each takes a stream of pages and a number of frames, and returns how many pages were read
+
+
+def lru(stream, frames):
+    held, reads = OrderedDict(), 0
+    for page in stream:
+        if page in held:
+            held.move_to_end(page)
+            continue
+        reads += 1
+        if len(held) >= frames:
+            held.popitem(last=False)
+        held[page] = True
+    return reads
+
+
+def fifo(stream, frames):
+    held, reads = OrderedDict(), 0
+    for page in stream:
+        if page in held:
+            continue
+        reads += 1
+        if len(held) >= frames:
+            held.popitem(last=False)
+        held[page] = True
+    return reads
+
+
+def clock(stream, frames):
+    ring, used, hand, reads = [], {}, 0, 0
+    for page in stream:
+        if page in used:
+            used[page] = True
+            continue
+        reads += 1
+        if len(ring) < frames:
+            ring.append(page)
+        else:
+            while used[ring[hand]]:
+                used[ring[hand]] = False
+                hand = (hand + 1) % frames
+            del used[ring[hand]]
+            ring[hand] = page
+            hand = (hand + 1) % frames
+        used[page] = False
+    return reads
+
+
+def opt(stream, frames):
+    """Gives up the page that is wanted again last (Belady 1966): no policy that reads pages when they are wanted reads fewer."""
+    never, last, following = len(stream), {}, [0] * len(stream)
+    for place in range(len(stream) - 1, -1, -1):
+        following[place] = last.get(stream[place], never)
+        last[stream[place]] = place
+    held, heap, reads = {}, [], 0
+    for place, page in enumerate(stream):
+        if page not in held:
+            reads += 1
+            if len(held) >= frames:
+                # An entry of the heap is out of date where its page was wanted meanwhile.
+                while held.get(heap[0][1]) != -heap[0][0]:
+                    heapq.heappop(heap)
+                del held[heapq.heappop(heap)[1]]
+        held[page] = following[place]
+        heapq.heappush(heap, (-following[place], page))
+    return reads
+
+
+POLICIES = (("opt", opt), ("lru", lru), ("clock", clock), ("fifo", fifo))
+
+
+def reads_of(policy, store, stream, frames):
+    """Returns how many tiles a policy reads. The root stays in a frame of its own, as in a walk, and is read once."""
+    pages = [page for page in stream if page != store.root]
+    return 1 + policy(pages, frames - 1)
+
+
+# -- what a walk did
+
+
+def passes_of(name):
+    """Returns the pages of a journal's head, and its passes: each with its picture and its map, unmap and lost lines."""
+    head, passes = [], []
+    with open(name, encoding="ascii") as file:
+        for number, line in enumerate(file, 1):
+            word, *fields = line.split()
+            try:
+                if word == "pass":
+                    passes.append((int(fields[0]), int(fields[2]), []))
+                elif word == "map" or word == "unmap":
+                    (passes[-1][2] if passes else head).append((word, tuple(map(int, fields[1:4]))))
+                elif word == "lost":
+                    passes[-1][2].append((word, tuple(map(int, fields[:3]))))
+                elif word != "row":
+                    raise ValueError
+            except (ValueError, IndexError):
+                raise Flaw(f"line {number} of {name} is none of a journal") from None
+    return head, passes
+
+
+def study_passes(store, path, journal, is_bilinear):
+    """Prints a line for each pass, and a summary."""
+    head, passes = passes_of(journal)
+    mapped = {store.index(*page): 0 for _, page in head}
+    seen, wanted, kept = set(mapped), {}, []
+    total = Counter()
+    print("pass,picture,wanted,hits,pixels,pixels_hit,loaded,again,lost,evicted,bytes,mapped")
+    for number, picture, events in passes:
+        if picture >= len(path.cameras):
+            raise Flaw(f"{journal} has picture {picture}, and the path has {len(path.cameras)}")
+        if picture not in wanted:
+            wanted = {picture: path.wanted(store, picture, is_bilinear)}
+        row = Counter(wanted=len(wanted[picture]), hits=sum(page in mapped for page, _ in wanted[picture]))
+        row.update(pixels=sum(count for _, count in wanted[picture]), pixels_hit=sum(count for page, count in wanted[picture] if page in mapped))
+        for word, name in events:
+            page = store.index(*name)
+            if word == "map":
+                row.update(loaded=1, again=page in seen)
+                seen.add(page)
+                mapped[page] = number
+            elif word == "unmap":
+                row.update(evicted=1)
+                kept.append(number - mapped.pop(page))
+            else:
+                row.update(lost=1)
+        names = ("wanted", "hits", "pixels", "pixels_hit", "loaded", "again", "lost", "evicted")
+        print(number, picture, *(row[name] for name in names), row["loaded"] * store.tile_bytes, len(mapped), sep=",")
+        total.update(row)
+    print(f"{len(passes)} passes: {share(total['hits'], total['wanted'])} of the wanted pages and {share(total['pixels_hit'], total['pixels'])} of the pixels were "
+          f"there at the start of a pass; {len(head) + total['loaded']} tiles read, {total['again']} of them again, {total['lost']} lost, {total['evicted']} given up; "
+          f"an evicted page stayed {sum(kept) / max(len(kept), 1):.1f} passes", file=sys.stderr)
+
+
+def share(part, whole):
+    return f"{100 * part / max(whole, 1):.1f} %"
+
+
+def walked(program, store, path, frames, words):
+    """Returns how many tiles a walk of the program reads, or None where its frames are too few."""
+    with tempfile.TemporaryDirectory() as room:
+        ran = subprocess.run([program, "walk", store, path, f"{room}/f", "--journal", f"{room}/journal.txt", "--frames", str(frames), *words],
+                             stdout=subprocess.PIPE, stderr=subprocess.PIPE, text=True)
+    if ran.returncode == 5 or ran.returncode == 2 and "usage" in ran.stderr:
+        return None
+    if ran.returncode != 0:
+        raise Flaw(ran.stderr.strip())
+    return int(ran.stdout.split()[-1])
+
+
+def figure(rows, names):
+    """Returns the figure as SVG: tiles read over frames, a line for each policy."""
+    colors = {"opt": "#444", "lru": "#06c", "clock": "#090", "fifo": "#c60", "settled": "#c00", "live": "#a0a"}
+    titles = {"opt": "OPT", "lru": "LRU", "clock": "CLOCK", "fifo": "FIFO", "settled": "vtex walk --settled", "live": "vtex walk"}
+    top = max(row[name] for row in rows for name in names if row[name] is not None)
+    step = 10 ** max(len(str(top)) - 1, 0)
+    lines = [mark for mark in range(0, top + 1, step if top // step > 2 else max(step // 4, 1))]
+    across = [70 + 500 * place / max(len(rows) - 1, 1) for place in range(len(rows))]
+
+    def down(reads):
+        return 300 - 260 * reads / top
+
+    out = ['<svg xmlns="http://www.w3.org/2000/svg" viewBox="0 0 760 350" font-family="sans-serif" font-size="12">', '<rect width="760" height="350" fill="#fff"/>']
+    for mark in lines:
+        out.append(f'<path d="M70 {down(mark):.0f}H570" stroke="#ddd"/><text x="62" y="{down(mark) + 4:.0f}" text-anchor="end">{mark}</text>')
+    for x, row in zip(across, rows):
+        out.append(f'<text x="{x:.0f}" y="318" text-anchor="middle">{row["frames"]}</text>')
+    for place, name in enumerate(names):
+        points = [(x, down(row[name])) for x, row in zip(across, rows) if row[name] is not None]
+        at = " ".join(f"{x:.0f},{y:.1f}" for x, y in points)
+        out.append(f'<polyline points="{at}" fill="none" stroke="{colors[name]}" stroke-width="2"/>')
+        out.append(f'<text x="590" y="{60 + 20 * place}" fill="{colors[name]}">{titles[name]}</text>')
+    out.append('<text x="320" y="340" text-anchor="middle">frames</text><text x="70" y="25">tiles read over the path</text></svg>')
+    return "\n".join(out) + "\n"
+
+
+def study_misses(store, path, words):
+    try:
+        frames = [int(it) for it in words.frames.split(",")]
+    except ValueError:
+        raise Flaw(f"--frames is a list of numbers as {FRAMES}, and not {words.frames}") from None
+    if min(frames) < 2:
+        raise Flaw("--frames is at least 2: one is the root's")
+    lists = stream_of(store, path, words.filter == "bilinear")
+    stream = [page for wanted in lists for page, _ in wanted]
+    print(f"{len(lists)} pictures, {len(stream)} references to {len(set(stream))} pages, at most {max(map(len, lists), default=0)} in a picture", file=sys.stderr)
+    program = words.program or next((it for it in (os.path.join(TOP, "dist", "vtex"),) if os.path.exists(it)), None)
+    names = [name for name, _ in POLICIES] + (["settled", "live"] if program else [])
+    if not program:
+        print("without a program: name one by --program", file=sys.stderr)
+    print("frames", *names, sep=",")
+    rows = []
+    for count in frames:
+        row = {name: reads_of(policy, store, stream, count) for name, policy in POLICIES}
+        if program:
+            by = ["--filter", words.filter]
+            row.update(settled=walked(program, words.store, words.path, count, [*by, "--settled"]), live=walked(program, words.store, words.path, count, by))
+        row["frames"] = count
+        rows.append(row)
+        print(count, *("" if row[name] is None else row[name] for name in names), sep=",", flush=True)
+    if words.figure:
+        with open(words.figure, "w", encoding="utf-8") as file:
+            file.write(figure(rows, names))
+
+
+def main(words):
+    parser = argparse.ArgumentParser(description=__doc__.strip(), formatter_class=argparse.RawDescriptionHelpFormatter, usage=argparse.SUPPRESS)
+    parser.add_argument("what", choices=("stream", "passes", "misses"))
+    parser.add_argument("store")
+    parser.add_argument("path")
+    parser.add_argument("journal", nargs="?")
+    parser.add_argument("--filter", choices=("nearest", "bilinear"), default="nearest")
+    parser.add_argument("--frames", default=FRAMES)
+    parser.add_argument("--program")
+    parser.add_argument("--figure")
+    words = parser.parse_args(words)
+    try:
+        if (words.journal is not None) != (words.what == "passes"):
+            raise Flaw("passes takes STORE PATH JOURNAL, the others STORE PATH")
+        store, path = Store(words.store), Path(words.path)
+        if words.what == "stream":
+            print("picture,page,level,column,row,pixels")
+            for picture, wanted in enumerate(stream_of(store, path, words.filter == "bilinear")):
+                for page, pixels in wanted:
+                    print(picture, page, *store.name(page), pixels, sep=",")
+        elif words.what == "passes":
+            study_passes(store, path, words.journal, words.filter == "bilinear")
+        else:
+            study_misses(store, path, words)
+    except (Flaw, OSError) as flaw:
+        print(f"study.py: {flaw}", file=sys.stderr)
+        return 1
+    return 0
+
+
+if __name__ == "__main__":
+    sys.exit(main(sys.argv[1:]))
