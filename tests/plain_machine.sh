@@ -39,18 +39,16 @@ do_it sh dist/install.sh ~/.local
 export PATH=~/.local/bin:$PATH
 mkdir ~/flight && cd ~/flight
 
-# The flight of README.md: each line of its first block that begins with vtex.
+# The flight of README.md: its first block with a walk. The image converter is not installed here, so a texture is made in place of a photograph.
 say "the flight of README.md"
 python3 - ~/vtex/README.md >commands <<'PYTHON'
 import re, sys
 text = open(sys.argv[1], encoding="utf-8").read()
-blocks = re.findall(r"^```[a-z]*\n(.*?)^```|^((?: {4}.*\n)+)", text, re.DOTALL | re.MULTILINE)
-lines = [line.strip() for block in blocks for part in block for line in part.splitlines()]
-chosen = [re.split(r"  +", line)[0] for line in lines if re.match(r"vtex (gen|tile|plain|walk|replay|trial)\b", line) or line.startswith(("printf ", "echo "))]
-print("\n".join(chosen))
+blocks = [block[0] or block[1] for block in re.findall(r"^```[a-z]*\n(.*?)^```|^((?: {4}.*\n)+)", text, re.DOTALL | re.MULTILINE)]
+lines = [line.strip() for line in next(block for block in blocks if "vtex walk" in block).splitlines()]
+print("\n".join("vtex gen 7 2048 1024 photo.ppm" if line.startswith(("convert ", "vips ", "magick ")) else re.split(r" {2,}#", line)[0] for line in lines))
 PYTHON
 cat commands
-[ "$(grep -c '^vtex' commands)" -ge 4 ] || { echo "README.md has fewer than four commands of a flight"; exit 1; }
 set -x; . ./commands; set +x
 ls
 MANPATH=~/.local/share/man man vtex | head -5
