@@ -8,7 +8,7 @@ use Rattle.vt_mip.specs.Image.{ImageView, texel_of}
 use Rattle.vt_mip.specs.Chains.{chain}
 use Rattle.vt_camera.specs.declared.paths.Camera.{Camera}
 use Rattle.vt_camera.specs.declared.surfaces.Surface.{Surface}
-use Rattle.vt_camera.specs.Paths.{PathView}
+use Rattle.vt_camera.specs.Paths.{PathView, camera_at}
 use Rattle.vt_camera.specs.Rows.{RowView, row_of, row_level, row_place}
 
 -- the word that pixel x of a row shows: the source's texel at the row's own level (van Waveren 2012)
