@@ -11,3 +11,4 @@ pub mod PathSteps
 pub mod KeysAdded
 pub mod Bits
 pub mod Products
+pub mod Cameras

@@ -1,5 +1,5 @@
 -- A path as its numbers, and the limits that they keep.
-use Rattle.std.specs.Prelude.{ℕ, ◌≤◌, List, length, pos, neg_ℤ, ◌≤ℤ◌, All}
+use Rattle.std.specs.Prelude.{ℕ, ◌≤◌, List, length, slice_index_or, pos, neg_ℤ, ◌≤ℤ◌, All}
 use Rattle.vt_text.specs.Limits.{most_picture_side, most_focal, most_pictures}
 use Rattle.vt_camera.specs.declared.paths.Camera.{Camera}
 
@@ -52,3 +52,7 @@ pub record IsPath (path : PathView) : Type 0 where
   pub focus : IsFocal path.focal
   pub few : length path.cameras ≤ most_pictures
   pub each : All IsCamera path.cameras
+
+-- the camera of a picture of a path; pictures count from 0
+abbrev pub camera_at : PathView → ℕ → Camera
+camera_at path picture = slice_index_or path.cameras picture (record { u = pos 0; v = pos 0; h = pos 1; c = pos 0; s = pos 0 })

@@ -9,7 +9,7 @@ use Rattle.std.proofs.lemmas.List.Sums.{sum_by-append, count_by-le-length}
 use Rattle.vt_pages.specs.Shape.{Shape}
 use Rattle.vt_camera.specs.Rows.{RowView}
 use Rattle.vt_draw.specs.Shots.{wanted_page, pixels_wanting, run_of}
-use Rattle.vt_draw.proofs.Drawn.{range_more}
+use Rattle.vt_draw.proofs.Ranges.{range_more}
 
 pub pixels-none : (s : Shape) (row : RowView) (p : ℕ) → pixels_wanting s row 0 p ≡ 0
 unfolding pixels_wanting

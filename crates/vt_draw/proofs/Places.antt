@@ -6,13 +6,12 @@ use Rattle.vt_pages.specs.Shape.{Shape}
 use Rattle.vt_pages.specs.Pages.{levels_of, level_of, ancestor_of, texel_page, IsPageAt, IsWithinLimits}
 use Rattle.vt_pages.specs.Laws.{IsInside}
 use Rattle.vt_pages.proofs.Lines.{texel_is_page, lines_follow_places}
-use Rattle.vt_camera.specs.Paths.{PathView}
+use Rattle.vt_camera.specs.Paths.{PathView, camera_at}
 use Rattle.vt_camera.specs.Rows.{RowView, row_level, row_place, camera_place}
 use Rattle.vt_camera.proofs.LevelLemmas.{inside_level, level_of_within}
 use Rattle.vt_camera.proofs.Ground.{ring_place_below}
 use Rattle.vt_draw.specs.declared.lookups.Found.{Found}
 use Rattle.vt_draw.specs.Lookups.{Note, IsFinestFound}
-use Rattle.vt_draw.specs.Plain.{camera_at}
 use Rattle.vt_draw.specs.Shots.{shot_row, wanted_page}
 
 -- halving a place on, from level k to level j

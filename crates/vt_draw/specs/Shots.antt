@@ -5,11 +5,10 @@ use Rattle.vt_pages.specs.Depths.{texel_bytes, word_bytes}
 use Rattle.vt_pages.specs.Shape.{Shape}
 use Rattle.vt_pages.specs.Pages.{levels_of}
 use Rattle.vt_camera.specs.declared.surfaces.Surface.{Surface}
-use Rattle.vt_camera.specs.Paths.{PathView}
+use Rattle.vt_camera.specs.Paths.{PathView, camera_at}
 use Rattle.vt_camera.specs.Rows.{RowView, row_of, row_level, row_place}
 use Rattle.vt_draw.specs.declared.lookups.Found.{Found}
 use Rattle.vt_draw.specs.Lookups.{Note, WordNote, IsFinestFound, covering_page, covering_place}
-use Rattle.vt_draw.specs.Plain.{camera_at}
 
 -- a texture that is cut into pages, as a camera sees it: its sides and its number of levels
 abbrev pub paged_surface : Shape → Surface

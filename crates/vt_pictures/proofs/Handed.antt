@@ -2,7 +2,7 @@
 use Rattle.std.proofs.Common.{◌≡◌, ℕ, List}
 use Rattle.std.specs.Prelude.{All}
 use Rattle.std.proofs.lemmas.List.Elements.{All-weaker, All-contains}
-use Rattle.vt_ppm.specs.Depths.{texel_bytes}
+use Rattle.vt_pages.specs.Depths.{texel_bytes}
 use Rattle.vt_draw.specs.Texels.{Source}
 use Rattle.vt_journal.specs.Shape.{Shape}
 use Rattle.vt_journal.specs.Pages.{IsWithinLimits}

@@ -1,7 +1,7 @@
 -- What is known of pixels by the notes of a look-up.
 use Rattle.std.specs.Prelude.{◌≡◌, ℕ, ◌+◌, ◌<◌, Some, None, List, All, Contains, length, slice_index}
 use Rattle.vt_draw.specs.Texels.{Source}
-use Rattle.vt_ppm.specs.Depths.{texel_bytes}
+use Rattle.vt_pages.specs.Depths.{texel_bytes}
 use Rattle.vt_journal.specs.Shape.{Shape}
 use Rattle.vt_journal.specs.Pages.{texel_page}
 use Rattle.vt_journal.specs.Laws.{IsInside}

@@ -8,7 +8,7 @@ pub use Rattle.vt_journal.specs.Following
 pub use Rattle.vt_journal.specs.JournalText
 pub use Rattle.vt_journal.specs.Lookups
 pub use Rattle.vt_journal.specs.declared as JournalTypes
-pub use Rattle.vt_ppm.specs.Depths
+pub use Rattle.vt_pages.specs.Depths
 pub mod Scenes
 pub mod Replays
 pub mod Evidence

@@ -2,7 +2,7 @@
 use Rattle.std.proofs.Common.{◌≡◌, ℕ, ◌+◌, ◌-◌, ◌/◌, ◌^◌, ◌<◌, ◌≤◌, List, Option, Some, sym, ap, ◌∙◌, arith}
 use Rattle.std.specs.Prelude.{slice_get, unwrap_or}
 use Rattle.std.proofs.lemmas.Option.{slice_get-get_or, same_Some}
-use Rattle.vt_ppm.specs.Depths.{word_bytes}
+use Rattle.vt_pages.specs.Depths.{word_bytes}
 use Rattle.vt_draw.specs.Texels.{Source}
 use Rattle.vt_journal.specs.Shape.{Shape}
 use Rattle.vt_journal.specs.Pages.{pages_of, levels_of, level_of, ancestors_of, ancestor_of, root_of, texel_page, IsWithinLimits}

@@ -1,7 +1,7 @@
 -- What a picture shows: under a page table, and without one; and what a replay is.
 use Rattle.std.specs.Prelude.{◌≡◌, ℕ, ◌*◌, ◌/◌, ◌^◌, ◌<◌, Some, unwrap_or, List, [], length, slice_get, slice_index_or, All}
 use Rattle.std.specs.List.{concat}
-use Rattle.vt_ppm.specs.Depths.{texel_length, texel_bytes, word_bytes}
+use Rattle.vt_pages.specs.Depths.{texel_length, texel_bytes, word_bytes}
 use Rattle.vt_draw.specs.Texels.{Source}
 use Rattle.vt_journal.specs.Shape.{Shape}
 use Rattle.vt_journal.specs.Pages.{level_of, root_of}

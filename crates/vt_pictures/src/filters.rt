@@ -1,7 +1,7 @@
 //! How pixels are made of texels, as who draws sees it.
 
 ghost use Rattle.std.specs.Prelude.{◌≡◌, ℕ, ◌+◌, ◌*◌, ◌<◌, ◌^◌, List, length, slice_index};
-ghost use Rattle.vt_ppm.specs.Depths.{IsDepth, texel_length};
+ghost use Rattle.vt_pages.specs.Depths.{IsDepth, texel_length};
 ghost use Rattle.vt_draw.specs.Texels.{Source};
 ghost use Rattle.vt_journal.specs.Shape.{Shape};
 ghost use Rattle.vt_journal.specs.Pages.{pages_of};

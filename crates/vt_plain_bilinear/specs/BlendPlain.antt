@@ -14,7 +14,7 @@ use Rattle.vt_pages.proofs.Lines.{texel_is_page}
 use Rattle.vt_camera.specs.Rows.{RowView, row_level}
 use Rattle.vt_draw.specs.Shots.{shot_row, wants_in_rows}
 use Rattle.vt_draw.proofs.Counts.{run-own}
-use Rattle.vt_draw.proofs.Drawn.{range_more}
+use Rattle.vt_draw.proofs.Ranges.{range_more}
 use Rattle.vt_pictures.specs.Changes.{Table}
 use Rattle.vt_pictures.specs.Scenes.{Scene}
 use Rattle.vt_pictures.specs.Replays.{scene_row}

@@ -1,9 +1,7 @@
 pub use Rattle.vt_pictures.specs.Names
 pub use Rattle.vt_pictures.specs.Pictures
-pub mod Plain
 pub mod Served
 pub mod Shown
 pub mod Inside
 pub mod BlendUnder
 pub mod BlendPlain
-pub mod BlendViews

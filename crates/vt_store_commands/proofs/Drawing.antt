@@ -6,7 +6,7 @@ use Rattle.std.proofs.lemmas.List.FromFn.{map-range_with_len_more}
 use Rattle.vt_definitions.specs.Depths.{greatest_sample}
 use Rattle.vt_ppm.specs.Picture.{picture_header, picture_bytes}
 use Rattle.vt_outside.specs.Expectations.{ExpectedFile}
-use Rattle.vt_plain_bilinear.specs.Pictures.{expected_picture, expected_pictures}
+use Rattle.vt_pictures.specs.Pictures.{expected_picture, expected_pictures}
 
 -- the parts of a header are before samples
 header_before : (xs ys zs samples : List ℕ) → (codes "P6\n" ++ xs ++ codes " " ++ ys ++ codes "\n" ++ zs ++ codes "\n") ++ samples

@@ -6,15 +6,15 @@ use Rattle.std.proofs.lemmas.Nat.{column_fits}
 use Rattle.std.proofs.lemmas.Fmt.{length-decimal-le}
 use borrow.Rule.Slice.PartMut.{put_mid}
 use Rattle.vt_definitions.specs.Depths.{IsDepth, texel_length, greatest_sample}
-use Rattle.vt_camera.specs.Paths.{PathView}
+use Rattle.vt_camera.specs.Paths.{PathView, camera_at}
 use Rattle.vt_ppm.specs.Picture.{picture_header}
-use Rattle.vt_draw.specs.declared.plain.Levels.{Levels}
-use Rattle.vt_draw.specs.Plain.{chain_of, surface_of, camera_at}
-use Rattle.vt_draw.specs.Views.{source_of}
-use Rattle.vt_draw.proofs.Drawn.{length-first_rows}
-use Rattle.vt_draw.proofs.PartsDrawn.{row_put}
-use Rattle.vt_plain_bilinear.specs.Plain.{plain_blends}
-use Rattle.vt_plain_bilinear.proofs.PlainBlends.{length-rows}
+use Rattle.vt_plain.specs.declared.plain.Levels.{Levels}
+use Rattle.vt_plain.specs.Plain.{chain_of, surface_of}
+use Rattle.vt_plain.specs.Views.{source_of}
+use Rattle.vt_plain.proofs.Drawn.{length-first_rows}
+use Rattle.vt_plain.proofs.PartsDrawn.{row_put}
+use Rattle.vt_plain.specs.BlendedPlain.{plain_blends}
+use Rattle.vt_plain.proofs.PlainBlends.{length-rows}
 use Rattle.vt_command_words.specs.declared.filters.Filtering.{Filtering}
 use Rattle.vt_command_words.specs.declared.filters.Filtering.TheVariants.{Nearest, Bilinear}
 use Rattle.vt_tiles.proofs.Spans.{span_add, span_length}

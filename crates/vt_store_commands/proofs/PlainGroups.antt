@@ -3,8 +3,8 @@ use Rattle.std.proofs.Common.{◌≡◌, ℕ, ◌+◌, ◌-◌, ◌*◌, ◌<◌
 use Rattle.std.proofs.Math.Nat.{mul-le-mul_left}
 use Rattle.vt_outside.specs.Effects.{FolderState}
 use Rattle.vt_outside.specs.Expectations.{Writes}
-use Rattle.vt_plain_bilinear.specs.Pictures.{expected_pictures}
-use Rattle.vt_plain_bilinear.proofs.WrittenPictures.{HasPictures, no_pictures}
+use Rattle.vt_pictures.specs.Pictures.{expected_pictures}
+use Rattle.vt_pictures.proofs.WrittenPictures.{HasPictures, no_pictures}
 use Rattle.vt_store_commands.specs.declared.plain_files.PlainPictures.{PlainPictures}
 use Rattle.vt_store_commands.specs.PlainFiles.{picture_file_of, file_size, ArePlainHeaders, HaveRoomFor, HoldsFiles}
 

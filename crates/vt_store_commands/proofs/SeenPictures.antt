@@ -13,15 +13,15 @@ use Rattle.vt_mip.specs.Chains.{ChainView, chain_levels}
 use Rattle.vt_mip.proofs.Following.{levels_go_on}
 use Rattle.vt_mip.proofs.Fronts.{side_scaled}
 use Rattle.vt_camera.specs.declared.surfaces.Surface.{Surface}
-use Rattle.vt_camera.specs.Paths.{PathView}
+use Rattle.vt_camera.specs.Paths.{PathView, camera_at}
 use Rattle.vt_camera.specs.Rows.{row_of, row_level}
-use Rattle.vt_draw.specs.declared.plain.Levels.{Levels}
-use Rattle.vt_draw.specs.Plain.{camera_at, chain_of, levels_from, plain_picture, surface_of}
-use Rattle.vt_draw.proofs.WantedLevels.{later_levels, whole_levels}
-use Rattle.vt_plain_bilinear.specs.Plain.{plain_blends}
+use Rattle.vt_plain.specs.declared.plain.Levels.{Levels}
+use Rattle.vt_plain.specs.Plain.{chain_of, levels_from, plain_picture, surface_of}
+use Rattle.vt_plain.proofs.WantedLevels.{later_levels, whole_levels}
+use Rattle.vt_plain.specs.BlendedPlain.{plain_blends}
 use Rattle.vt_outside.specs.Effects.{CallEffect, FolderEffect}
 use Rattle.vt_outside.specs.Expectations.{ExpectedFile, IsWrittenPrefix, IsPart, Leaves, Writes, with_files}
-use Rattle.vt_plain_bilinear.specs.Pictures.{expected_pictures}
+use Rattle.vt_pictures.specs.Pictures.{expected_pictures}
 use Rattle.vt_outside.proofs.Writing.{part_none}
 use Rattle.vt_command_words.specs.declared.filters.Filtering.{Filtering}
 use Rattle.vt_command_words.specs.declared.filters.Filtering.TheVariants.{Nearest, Bilinear}

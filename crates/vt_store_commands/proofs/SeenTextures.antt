@@ -21,10 +21,10 @@ use Rattle.vt_ppm.proofs.ImageLaws.{texture_within_sides}
 use Rattle.vt_mip.specs.Levels.{IsLevel}
 use Rattle.vt_mip.proofs.Words.{half_is_next}
 use Rattle.vt_camera.specs.declared.surfaces.Surface.{Surface}
-use Rattle.vt_camera.specs.Paths.{PathView}
+use Rattle.vt_camera.specs.Paths.{PathView, camera_at}
 use Rattle.vt_camera.specs.Rows.{row_of, row_level}
-use Rattle.vt_draw.specs.Plain.{camera_at, chain_of, levels_from, plain_picture, plain_samples, surface_of}
-use Rattle.vt_draw.proofs.WantedLevels.{levels_whole, pictures_go_on}
+use Rattle.vt_plain.specs.Plain.{chain_of, levels_from, plain_picture, plain_samples, surface_of}
+use Rattle.vt_plain.proofs.WantedLevels.{levels_whole, pictures_go_on}
 use Rattle.vt_outside.specs.Effects.{FolderState}
 use Rattle.vt_command_inputs.specs.Inputs.{TextureInput, TextureContent, AreStrips}
 use Rattle.vt_command_inputs.specs.Reads.{OpenFileState, TookInput, OpensTexture, Closed, Refused, IsInputAsked, IsRefusalCausedBy}

@@ -3,8 +3,8 @@ use Rattle.std.specs.Prelude.{ℕ, List}
 use Rattle.vt_ppm.specs.Image.{ImageView}
 use Rattle.vt_ppm.specs.Picture.{picture_bytes}
 use Rattle.vt_camera.specs.Paths.{PathView}
-use Rattle.vt_draw.specs.Plain.{plain_samples}
-use Rattle.vt_plain_bilinear.specs.Plain.{plain_blends}
+use Rattle.vt_plain.specs.Plain.{plain_samples}
+use Rattle.vt_plain.specs.BlendedPlain.{plain_blends}
 use Rattle.vt_command_words.specs.declared.filters.Filtering.{Filtering}
 use Rattle.vt_command_words.specs.declared.filters.Filtering.TheVariants.{Nearest, Bilinear}
 

@@ -4,16 +4,16 @@ use Rattle.std.specs.List.{flat_map, range_with_len}
 use Rattle.vt_definitions.specs.Depths.{texel_length}
 use Rattle.vt_outside.specs.declared.answers.OutsideError.{OutsideError}
 use Rattle.vt_ppm.specs.Picture.{picture_header, picture_bytes}
-use Rattle.vt_camera.specs.Paths.{PathView}
-use Rattle.vt_draw.specs.declared.plain.Levels.{Levels}
-use Rattle.vt_draw.specs.Plain.{camera_at, plain_picture}
-use Rattle.vt_draw.specs.Views.{AreLevels, WantsNone, source_of}
-use Rattle.vt_plain_bilinear.specs.Plain.{plain_blends}
+use Rattle.vt_camera.specs.Paths.{PathView, camera_at}
+use Rattle.vt_plain.specs.declared.plain.Levels.{Levels}
+use Rattle.vt_plain.specs.Plain.{plain_picture}
+use Rattle.vt_plain.specs.Views.{AreLevels, WantsNone, source_of}
+use Rattle.vt_plain.specs.BlendedPlain.{plain_blends}
 use Rattle.vt_command_words.specs.declared.filters.Filtering.{Filtering}
 use Rattle.vt_command_words.specs.declared.filters.Filtering.TheVariants.{Nearest, Bilinear}
 use Rattle.vt_outside.specs.Effects.{FolderState, FolderEffect}
 use Rattle.vt_outside.specs.Expectations.{Writes}
-use Rattle.vt_plain_bilinear.specs.Pictures.{expected_pictures}
+use Rattle.vt_pictures.specs.Pictures.{expected_pictures}
 use Rattle.vt_store_commands.specs.declared.plain_files.PlainPictures.{PlainPictures}
 
 -- the samples of a picture by a filter: of the levels that are there by the nearest texel, and of the whole chain by a blend

@@ -8,12 +8,12 @@ use Rattle.vt_ppm.specs.Picture.{picture_bytes}
 use Rattle.vt_ppm.specs.Strips.{texture_of}
 use Rattle.vt_mip.specs.Halves.{IsHalf}
 use Rattle.vt_camera.specs.declared.surfaces.Surface.{Surface}
-use Rattle.vt_camera.specs.Paths.{PathView}
+use Rattle.vt_camera.specs.Paths.{PathView, camera_at}
 use Rattle.vt_camera.specs.Rows.{IsSurface, row_of, row_level}
-use Rattle.vt_draw.specs.Plain.{camera_at, chain_of, levels_from, plain_picture}
-use Rattle.vt_plain_bilinear.specs.Plain.{plain_blends}
+use Rattle.vt_plain.specs.Plain.{chain_of, levels_from, plain_picture}
+use Rattle.vt_plain.specs.BlendedPlain.{plain_blends}
 use Rattle.vt_outside.specs.Effects.{FolderEffect}
-use Rattle.vt_plain_bilinear.specs.Pictures.{expected_pictures}
+use Rattle.vt_pictures.specs.Pictures.{expected_pictures}
 use Rattle.vt_outside.specs.Expectations.{Expected}
 use Rattle.vt_command_inputs.specs.Inputs.{TextureInput, TextureContent}
 use Rattle.vt_command_inputs.specs.Lines.{end_line}

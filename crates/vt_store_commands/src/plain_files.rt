@@ -9,8 +9,7 @@ use std::thread::{Threads, join_mut};
 use vt_camera::Path;
 use vt_command_words::Filtering;
 use vt_definitions::texel_length;
-use vt_draw::{Levels, draw_levels_into};
-use vt_plain_bilinear::draw_plain_blend_into;
+use vt_plain::{Levels, draw_levels_into, draw_plain_blend_into};
 use vt_threads::share;
 
 /// What the files of plain pictures are made of, and the header that each of them begins with.

@@ -4,8 +4,8 @@ ghost use Rattle.std.specs.Prelude.{◌≡◌, false, ◌⊎◌, ◌*◌, ◌-�
 ghost use Rattle.std.specs.Thread.{IsSync};
 ghost use Rattle.vt_outside.specs.Effects.{folder_effect};
 ghost use Rattle.vt_outside.specs.Expectations.{Writes};
-ghost use Rattle.vt_plain_bilinear.specs.Pictures.{expected_pictures};
-ghost use Rattle.vt_plain_bilinear.specs.Names.{four_digit_numbers, picture_name};
+ghost use Rattle.vt_pictures.specs.Pictures.{expected_pictures};
+ghost use Rattle.vt_pictures.specs.Names.{four_digit_numbers, picture_name};
 ghost use Rattle.vt_store_commands.specs.PlainFiles.{ArePlainHeaders, HaveRoomFor, HoldsFiles, WritesOn, picture_file_of, file_size};
 
 use crate::plain_files::{PlainPictures, draw_front, file_size};
@@ -14,7 +14,7 @@ use std::mem;
 use std::thread::{Threads, join_mut};
 use vt_command_words::Filtering;
 use vt_outside::{Folder, OutsideError, write_file};
-use vt_plain_bilinear::picture_name;
+use vt_pictures::picture_name;
 use vt_threads::{BLENDING_TIME, DRAWING_TIME, processors, threads_for};
 
 // How many pixels a thread draws at least before the pictures are written: half a millisecond of work.

@@ -11,9 +11,10 @@ use crate::fixtures::{FOUR, holds, image_of};
 use std::alloc::Global;
 use std::thread::Threads;
 use vt_camera::{Path, parse_path};
-use vt_draw::{Shot, draw_plain, draw_row};
+use vt_draw::{Shot, draw_row};
 use vt_mip::Chain;
 use vt_pages::Geometry;
+use vt_plain::draw_plain;
 
 // One picture of two pixels, from the height of one texel.
 const PATH: &[u8] = b"size 2 1\nfocal 1\nat 0 0 256 16384 0\n";

@@ -4,7 +4,7 @@ use Rattle.std.specs.Prelude.{◌==◌}
 use Rattle.std.specs.List.{range_with_len, count_by}
 use Rattle.std.proofs.lemmas.Bool.{eqb-true, eqb-false}
 use Rattle.std.proofs.lemmas.List.Sums.{sum_by-append}
-use Rattle.vt_draw.proofs.Drawn.{range_more}
+use Rattle.vt_draw.proofs.Ranges.{range_more}
 use Rattle.vt_walk_commands.specs.commands.Trial.{other_bytes}
 
 pub other-none : (a b : List ℕ) → other_bytes a b 0 ≡ 0

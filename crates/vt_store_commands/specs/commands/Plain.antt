@@ -3,7 +3,7 @@ use Rattle.std.specs.Prelude.{ℕ, List, [], ◌∷◌, Option, Some, None, Bool
 use Rattle.clap.specs.Words.{Row, Rule, Text, first_of}
 use Rattle.vt_command_words.specs.Arguments.{word, option, given}
 use Rattle.vt_command_words.specs.Filters.{filter_option, filter_of}
-use Rattle.vt_plain_bilinear.specs.Names.{is_picture_name}
+use Rattle.vt_pictures.specs.Names.{is_picture_name}
 use Rattle.vt_command_words.specs.Numbers.{side_of}
 use Rattle.vt_command_words.specs.declared.filters.Filtering.{Filtering}
 use Rattle.vt_store_commands.specs.declared.commands.plain.PlainWords.{PlainWords}
@@ -13,7 +13,7 @@ use Rattle.vt_command_inputs.specs.Lines.{end_line}
 use Rattle.vt_store_commands.specs.Pictures.{plain_file}
 use Rattle.vt_command_inputs.specs.Inputs.{InputContent, PathInput, TextureInput, PathContent, TextureContent}
 use Rattle.vt_outside.specs.Expectations.{Expected}
-use Rattle.vt_plain_bilinear.specs.Pictures.{expected_pictures}
+use Rattle.vt_pictures.specs.Pictures.{expected_pictures}
 use Rattle.vt_command_inputs.specs.Tasks.{Task}
 
 -- the words as names, a number and a filter

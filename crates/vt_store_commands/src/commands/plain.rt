@@ -11,7 +11,7 @@ ghost use Rattle.vt_store_commands.specs.PlainFiles.{AreLevelsWanted, file_with}
 ghost use Rattle.vt_store_commands.specs.SeenTextures.{IsEnough, seen_path};
 ghost use Rattle.vt_outside.specs.Expectations.{Leaves, Writes};
 ghost use Rattle.vt_command_inputs.specs.CommandSpecs.{EndsAs};
-ghost use Rattle.vt_plain_bilinear.specs.Pictures.{expected_pictures};
+ghost use Rattle.vt_pictures.specs.Pictures.{expected_pictures};
 
 use crate::commands::StoreCommand;
 use crate::plain_files::PlainPictures;
@@ -26,10 +26,10 @@ use vt_command_words::Filtering;
 use vt_command_words::arguments::{Argument, text};
 use vt_command_words::filters::filter_of;
 use vt_command_words::numbers::side_of;
-use vt_draw::Levels;
+use vt_plain::Levels;
 use vt_mip::Chain;
 use vt_outside::{Folder, OutsideError, Sink};
-use vt_plain_bilinear::is_picture_name;
+use vt_pictures::is_picture_name;
 use vt_ppm::begin_picture;
 
 /// The words of `plain`.

@@ -10,7 +10,8 @@ use vt_camera::{Path, parse_path};
 use vt_draw::Shot;
 use vt_mip::Chain;
 use vt_pages::Geometry;
-use vt_plain_bilinear::{draw_plain_blend, draw_row_blend};
+use vt_plain::draw_plain_blend;
+use vt_plain_bilinear::draw_row_blend;
 
 // From the height of one texel: a place between the texels 1, 2, 5 and 6, which weigh 24576, 24576, 8192 and 8192, and one in the
 // last column and row, after which the texture begins anew.

@@ -10,7 +10,7 @@ use Rattle.vt_mip.specs.Chains.{ChainView}
 use Rattle.vt_camera.specs.Paths.{PathView}
 use Rattle.vt_camera.specs.PathText.{IsPathText}
 use Rattle.vt_pages.specs.Shape.{Shape, shape_of}
-use Rattle.vt_draw.specs.Plain.{plain_samples}
+use Rattle.vt_plain.specs.Plain.{plain_samples}
 use Rattle.vt_pictures.specs.Scenes.{scene_of}
 use Rattle.vt_walk.specs.Nearest.{nearest}
 use Rattle.vt_walk.specs.WalkDecisionsTypes.settings.Settings.{Settings}

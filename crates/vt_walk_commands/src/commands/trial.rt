@@ -20,7 +20,7 @@ use std::thread::Threads;
 use vt_camera::{Path, parse_path};
 use vt_command_inputs::{Refusal, add};
 use vt_command_words::TrialWords;
-use vt_draw::draw_plain;
+use vt_plain::draw_plain;
 use vt_mip::Chain;
 use vt_outside::{Fails, Folder, Gate, MemoryFolder, MemorySink, NoMemory, OutsideError, Sink};
 use vt_pages::Geometry;

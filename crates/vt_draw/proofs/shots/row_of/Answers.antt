@@ -2,9 +2,9 @@ use Rattle.std.proofs.Common.{◌≡◌, ap, sym, subst, ◌∙◌}
 use Rattle.vt_camera.specs.declared.paths.Camera.{Camera}
 use Rattle.vt_camera.specs.declared.surfaces.Surface.{Surface}
 use Rattle.vt_camera.specs.Rows.{RowView, IsSurface, row_of}
-use Rattle.vt_draw.specs.Plain.{camera_at}
+use Rattle.vt_camera.specs.Paths.{camera_at}
 use Rattle.vt_draw.specs.Shots.{paged_surface, shot_row}
-use Rattle.vt_draw.proofs.Drawn.{camera_is}
+use Rattle.vt_camera.proofs.Cameras.{camera_is}
 use Rattle.vt_draw.proofs.shots.row_of.Goals as goal
 
 pub returns-clause-row : goal.returns-clause-row

@@ -1,9 +1,9 @@
 use Rattle.std.proofs.Common.{◌≡◌, ℕ, ◌+◌, ◌-◌, ◌*◌, Ok, Err, length, refl, ap, sym, subst, ◌∙◌, arith}
 use Rattle.std.proofs.lemmas.Result.{err_from_is_err_and}
-use Rattle.vt_plain_bilinear.specs.Names.{picture_name}
+use Rattle.vt_pictures.specs.Names.{picture_name}
 use Rattle.vt_outside.specs.Effects.{folder_state, folder_effect}
 use Rattle.vt_outside.proofs.Writing.{written_as}
-use Rattle.vt_plain_bilinear.proofs.WrittenPictures.{HasPictures, more_pictures, stopped_pictures}
+use Rattle.vt_pictures.proofs.WrittenPictures.{HasPictures, more_pictures, stopped_pictures}
 use Rattle.vt_store_commands.specs.PlainFiles.{picture_file_of, file_size}
 use Rattle.vt_store_commands.proofs.PlainFiles.{length-file, piece_is, held_parts, file_within}
 use Rattle.vt_store_commands.proofs.plain_groups.write_files.Goals as goal

@@ -1,8 +1,8 @@
 use Rattle.std.proofs.Common.{Ok}
 use Rattle.vt_outside.specs.Effects.{FolderState, folder_state}
 use Rattle.vt_outside.specs.Expectations.{Writes}
-use Rattle.vt_plain_bilinear.specs.Pictures.{expected_pictures}
-use Rattle.vt_plain_bilinear.proofs.WrittenPictures.{HasPictures}
+use Rattle.vt_pictures.specs.Pictures.{expected_pictures}
+use Rattle.vt_pictures.proofs.WrittenPictures.{HasPictures}
 use Rattle.vt_store_commands.specs.PlainFiles.{picture_file_of}
 use Rattle.vt_store_commands.proofs.plain_groups.write_files.Given as goal
 

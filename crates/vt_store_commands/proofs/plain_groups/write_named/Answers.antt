@@ -1,7 +1,7 @@
 use Rattle.std.proofs.Common.{◌≡◌, refl, ◌∙◌}
 use Rattle.std.proofs.lemmas.Result.{err_from_is_err_and}
 use Rattle.vt_outside.specs.Effects.{folder_state, folder_effect}
-use Rattle.vt_plain_bilinear.specs.Names.{picture_name}
+use Rattle.vt_pictures.specs.Names.{picture_name}
 use Rattle.vt_outside.proofs.Writing.{unwritten, written_as}
 use Rattle.vt_store_commands.proofs.plain_groups.write_named.Goals as goal
 

@@ -2,7 +2,7 @@ use Rattle.std.proofs.Common.{[], ◌∷◌, Ok, Err, refl, length, subst}
 use Rattle.std.specs.Option.{IsSome}
 use Rattle.std.proofs.lemmas.Result.{err_from_is_err_and}
 use Rattle.vt_outside.specs.Effects.{folder_state, sink_state, call_effect}
-use Rattle.vt_plain_bilinear.specs.Pictures.{expected_pictures}
+use Rattle.vt_pictures.specs.Pictures.{expected_pictures}
 use Rattle.vt_command_inputs.specs.Inputs.{PathInput, TextureInput, PathContent, TextureContent}
 use Rattle.vt_command_inputs.specs.Lines.{end_line}
 use Rattle.vt_store_commands.specs.commands.Plain.{shown_plain, plain_task}

@@ -3,7 +3,7 @@ use Rattle.std.specs.Prelude.{sum_by}
 use Rattle.std.specs.List.{range_with_len}
 use Rattle.std.proofs.lemmas.List.Sums.{sum_by_push}
 use Rattle.vt_outside.specs.MemoryFolder.{memory_files}
-use Rattle.vt_draw.proofs.Drawn.{range_more}
+use Rattle.vt_draw.proofs.Ranges.{range_more}
 use Rattle.vt_walk_commands.specs.commands.Trial.{differing_in}
 use Rattle.vt_walk_commands.proofs.commands.trial.count_differing.Goals as goal
 
