@@ -1,8 +1,9 @@
 -- What stays over the steps of the owner.
-use Rattle.std.proofs.Common.{◌≡◌, ◌≢◌, ℕ, ◌-◌, ◌<◌, inl, inr, List, [], ◌∷◌, ◌++◌, length, refl, sym, ap, ◌∙◌, subst, arith}
+use Rattle.std.proofs.Common.{◌≡◌, ◌≢◌, ℕ, ◌+◌, ◌-◌, ◌<◌, inl, inr, List, [], ◌∷◌, ◌++◌, length, refl, sym, ap, ◌∙◌, subst, arith, append_assoc}
 use Rattle.vt_journal.specs.declared.changes.Change.{Change}
 use Rattle.vt_journal.specs.declared.changes.Change.TheVariants.{Map}
 use Rattle.vt_grace.specs.declared.sizes.Sizes.{Sizes}
+use Rattle.vt_grace.specs.declared.views.Look.{Look}
 use Rattle.vt_grace.specs.declared.views.WriterView.{WriterView}
 use Rattle.vt_grace.specs.Banks.{MayFill}
 use Rattle.vt_grace.specs.Places.{frame_words}
@@ -117,27 +118,28 @@ written_one z v w x y frame sizes looked rest may filled after = record {
 }
 
 -- whom a step waits for
-awaited : (v w : WriterView) (least k h : ℕ) → HasOnlyLooked v w → IsFirstBehind v w least k h → IsSamplerAwaited w least k h
-awaited v w least k h looked first = record {
+awaited : (u v w : WriterView) (least k h : ℕ) (more : List Look) → v.looks ≡ more ++ u.looks → HasOnlyLooked v w → IsFirstBehind v w least k h → IsSamplerAwaited u w least k h
+awaited u v w least k h more e looked first = record {
   inside = subst (λ (y : Sizes). k < y.samplers) (sym (ap (λ (x : WriterView). x.sizes) looked.rest)) first.inside;
   below = first.behind.below;
   low = first.behind.low;
-  earlier = first.behind.before ++ v.looks;
-  looked = first.behind.looks;
+  before = first.behind.before ++ more;
+  looked = first.behind.looks ∙ ap (λ (l : List Look). record { sampler = k; word = h + 1 } ∷ l)
+      (ap (λ (l : List Look). first.behind.before ++ l) e ∙ sym (append_assoc first.behind.before more u.looks));
   others = first.others;
 }
 
-pub bank_awaited : (u v w : StreamerView) (k h : ℕ) → HasSame u v → HasOnlyLooked v.writer w.writer
+pub bank_awaited : (u v w : StreamerView) (k h : ℕ) (more : List Look) → v.writer.looks ≡ more ++ u.writer.looks → HasSame u v → HasOnlyLooked v.writer w.writer
     → IsFirstBehind v.writer w.writer (version_of v.writer - 2) k h → AwaitsBank u w k h
-bank_awaited u v w k h same looked first =
-    subst (λ (js : List Change). IsSamplerAwaited w.writer (length js - 2) k h) same.journal (awaited v.writer w.writer (version_of v.writer - 2) k h looked first)
+bank_awaited u v w k h more e same looked first =
+    subst (λ (js : List Change). IsSamplerAwaited u.writer w.writer (length js - 2) k h) same.journal (awaited u.writer v.writer w.writer (version_of v.writer - 2) k h more e looked first)
 
-pub frame_awaited : (u v w : StreamerView) (frame k h : ℕ) → HasSame u v → HasOnlyLooked v.writer w.writer
-    → (version : ℕ) × IsUnmappedBy v.writer.journal frame version × IsFirstBehind v.writer w.writer version k h → AwaitsFrame u frame w k h
-frame_awaited u v w frame k h same looked p = record {
+pub frame_awaited : (v w : StreamerView) (frame k h : ℕ) → HasOnlyLooked v.writer w.writer
+    → (version : ℕ) × IsUnmappedBy v.writer.journal frame version × IsFirstBehind v.writer w.writer version k h → AwaitsFrame v frame w k h
+frame_awaited v w frame k h looked p = record {
   version = p.0;
-  unmapped = subst (λ (js : List Change). IsUnmappedBy js frame p.0) same.journal p.1;
-  awaited = awaited v.writer w.writer p.0 k h looked p.2;
+  unmapped = p.1;
+  awaited = awaited v.writer v.writer w.writer p.0 k h [] refl looked p.2;
 }
 
 pub has_mapped : (z : Sizes) (u w x : StreamerView) (page frame : ℕ) (tile : List ℕ) → WasLeft u.writer frame → HasSame u w → w.writer.sizes ≡ z

@@ -59,24 +59,24 @@ pub record HasUnmappedNext (v : StreamerView) (page frame : ℕ) (w : StreamerVi
   pub journal : w.writer.journal ≡ v.writer.journal ++ Unmap page frame ∷ []
   pub contents : w.writer.contents ≡ v.writer.contents ++ [] ∷ []
 
--- a sampler is waited for, the least that may hold a version below one: it announced one of them when it was looked at last
-pub record IsSamplerAwaited (w : WriterView) (least sampler holds : ℕ) : Type 0 where
+-- a sampler is waited for, the least that may hold a version below one: by the last look, which was made since, it announced one of them
+pub record IsSamplerAwaited (v w : WriterView) (least sampler holds : ℕ) : Type 0 where
   pub inside : sampler < w.sizes.samplers
   pub below : holds < least
   pub low : floor_of w sampler < least
-  pub earlier : List Look
-  pub looked : w.looks ≡ record { sampler = sampler; word = holds + 1 } ∷ earlier
+  pub before : List Look
+  pub looked : w.looks ≡ record { sampler = sampler; word = holds + 1 } ∷ (before ++ v.looks)
   pub others : (k : ℕ) → k < sampler → least ≤ floor_of w k
 
 -- the next version waits for a sampler that may hold one more than two before the newest
 abbrev pub AwaitsBank : StreamerView → StreamerView → ℕ → ℕ → Type 0
-AwaitsBank v w sampler holds = IsSamplerAwaited w.writer (version_of v.writer - 2) sampler holds
+AwaitsBank v w sampler holds = IsSamplerAwaited v.writer w.writer (version_of v.writer - 2) sampler holds
 
 -- or a frame waits for a sampler that may hold a version before the one that unmapped it
 pub record AwaitsFrame (v : StreamerView) (frame : ℕ) (w : StreamerView) (sampler holds : ℕ) : Type 0 where
   pub version : ℕ
   pub unmapped : IsUnmappedBy v.writer.journal frame version
-  pub awaited : IsSamplerAwaited w.writer version sampler holds
+  pub awaited : IsSamplerAwaited v.writer w.writer version sampler holds
 
 -- a map waits for either
 abbrev pub AwaitsEither : StreamerView → ℕ → StreamerView → ℕ → ℕ → Type 0

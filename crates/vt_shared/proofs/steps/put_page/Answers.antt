@@ -3,8 +3,9 @@ use Rattle.vt_outside.proofs.Refusing.{handed_on}
 use Rattle.vt_pages.specs.Shape.{Shape}
 use Rattle.vt_grace.specs.declared.views.WriterView.{WriterView}
 use Rattle.vt_streamer.specs.Fills.{words_in}
+use Rattle.vt_streamer.specs.Views.{StreamerView}
 use Rattle.vt_shared.proofs.Handing.{given_same, given_mapped}
-use Rattle.vt_shared.proofs.Keeping.{HasSame, same_none, same_both, same_looked, same_filled, bank_awaited, frame_awaited, was_left, has_mapped, written_none, written_one}
+use Rattle.vt_shared.proofs.Keeping.{HasSame, same_both, same_looked, same_filled, bank_awaited, frame_awaited, was_left, has_mapped, written_none, written_one}
 use Rattle.vt_shared.proofs.Tiles.{are_bytes}
 use Rattle.vt_shared.proofs.steps.put_page.Goals as goal
 
@@ -46,7 +47,8 @@ returns-in_err-try_publish-clause-waiting c =
     let x = c.fill.new.self in
     let same : HasSame v x = same_both v w x (same_looked v w c.try_free.ensures.looked c.try_free.ensures.rest) (same_filled w x c.fill.ensures.rest) in
     handed_on c.from_residual-in_err-try_publish.result c.in_err-try_publish.field-0.0 _ c.from_residual-in_err-try_publish.ensures.1
-    (inr (bank_awaited v x c.try_publish.new.self c.in_err-try_publish.field-0.0.sampler c.in_err-try_publish.field-0.0.holds same
+    (inr (bank_awaited v x c.try_publish.new.self c.in_err-try_publish.field-0.0.sampler c.in_err-try_publish.field-0.0.holds
+    c.try_free.ensures.looked.more (ap (λ (s : StreamerView). s.writer.looks) c.fill.ensures.rest ∙ c.try_free.ensures.looked.looks) same
     c.in_err-try_publish.ensures.refused c.in_err-try_publish.ensures.waiting))
 
 pub returns-in_err-try_free-clause-waiting : goal.returns-in_err-try_free-clause-waiting
@@ -54,7 +56,7 @@ returns-in_err-try_free-clause-waiting c =
     let v = c.args.streamer.now in
     let w = c.try_free.new.self in
     handed_on c.from_residual.result c.in_err-try_free.field-0.0 _ c.from_residual.ensures.1
-    (inl (frame_awaited v v w c.args.frame c.in_err-try_free.field-0.0.sampler c.in_err-try_free.field-0.0.holds (same_none v)
+    (inl (frame_awaited v w c.args.frame c.in_err-try_free.field-0.0.sampler c.in_err-try_free.field-0.0.holds
     c.try_free.ensures.looked c.in_err-try_free.ensures.waiting))
 
 pub returns-clause-written : goal.returns-clause-written
