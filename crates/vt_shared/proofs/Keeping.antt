@@ -5,7 +5,7 @@ use Rattle.vt_journal.specs.declared.changes.Change.TheVariants.{Map}
 use Rattle.vt_grace.specs.declared.sizes.Sizes.{Sizes}
 use Rattle.vt_grace.specs.declared.views.Look.{Look}
 use Rattle.vt_grace.specs.declared.views.WriterView.{WriterView}
-use Rattle.vt_grace.specs.Banks.{MayFill}
+use Rattle.vt_grace.specs.Banks.{MayFill, MayWriteNext}
 use Rattle.vt_grace.specs.Places.{frame_words}
 use Rattle.vt_grace.specs.WriterViews.{version_of, floor_of}
 use Rattle.vt_streamer.specs.Banks.{HasPublished}
@@ -65,6 +65,23 @@ same_looked v w looked e = record {
   journal = ap (λ (y : WriterView). y.journal) looked.rest;
   contents = ap (λ (y : WriterView). y.contents) looked.rest;
 }
+
+-- and once more
+pub rest_both : (u v w : StreamerView) → v ≡ record u { writer = v.writer } → w ≡ record v { writer = w.writer } → w ≡ record u { writer = w.writer }
+rest_both u v w a b = b ∙ ap (λ (y : StreamerView). record y { writer = w.writer }) a
+
+-- the next bank may be written still, after looks and after a frame was filled
+pub may_write_on : (b w x : StreamerView) → HasOnlyLooked b.writer w.writer → x ≡ record w { writer = record w.writer { texels = x.writer.texels }; owners = x.owners }
+    → MayWriteNext b.writer → MayWriteNext x.writer
+may_write_on b w x looked filled may k inside =
+    let sizes : x.writer.sizes ≡ b.writer.sizes = ap (λ (y : StreamerView). y.writer.sizes) filled ∙ ap (λ (y : WriterView). y.sizes) looked.rest in
+    let journal : x.writer.journal ≡ b.writer.journal = ap (λ (y : StreamerView). y.writer.journal) filled ∙ ap (λ (y : WriterView). y.journal) looked.rest in
+    let floor : floor_of x.writer k ≡ floor_of w.writer k = ap (λ (y : StreamerView). floor_of y.writer k) filled in
+    let version : version_of x.writer ≡ version_of b.writer = ap (λ (js : List Change). length js) journal in
+    let there : k < b.writer.sizes.samplers = subst (λ (z : Sizes). k < z.samplers) sizes inside in
+    let before = may k there in
+    let rose = looked.up k in
+    omega (arith, version, floor, before, rose)
 
 -- a frame was filled
 pub same_filled : (v w : StreamerView) → w ≡ record v { writer = record v.writer { texels = w.writer.texels }; owners = w.owners } → HasSame v w
@@ -147,12 +164,12 @@ pub bank_awaited : (u v w : StreamerView) (k h : ℕ) (more : List Look) → v.w
 bank_awaited u v w k h more e same looked first =
     subst (λ (js : List Change). IsSamplerAwaited u.writer w.writer (length js - 2) k h) same.journal (awaited u.writer v.writer w.writer (version_of v.writer - 2) k h more e looked first)
 
-pub frame_awaited : (v w : StreamerView) (frame k h : ℕ) → HasOnlyLooked v.writer w.writer
-    → (version : ℕ) × IsUnmappedBy v.writer.journal frame version × IsFirstBehind v.writer w.writer version k h → AwaitsFrame v frame w k h
-frame_awaited v w frame k h looked p = record {
+pub frame_awaited : (u v w : StreamerView) (frame k h : ℕ) → HasOnlyLooked u.writer v.writer → HasOnlyLooked v.writer w.writer
+    → (version : ℕ) × IsUnmappedBy v.writer.journal frame version × IsFirstBehind v.writer w.writer version k h → AwaitsFrame u frame w k h
+frame_awaited u v w frame k h before looked p = record {
   version = p.0;
-  unmapped = p.1;
-  awaited = awaited v.writer v.writer w.writer p.0 k h [] refl looked p.2;
+  unmapped = subst (λ (js : List Change). IsUnmappedBy js frame p.0) (ap (λ (y : WriterView). y.journal) before.rest) p.1;
+  awaited = awaited u.writer v.writer w.writer p.0 k h before.more before.looks looked p.2;
 }
 
 pub has_mapped : (z : Sizes) (u w x : StreamerView) (page frame : ℕ) (tile : List ℕ) → WasLeft u.writer x.writer frame → HasSame u w → w.writer.sizes ≡ z
