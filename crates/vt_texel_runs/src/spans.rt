@@ -75,25 +75,26 @@ pub fn is_run(geometry: &Geometry, span: &Span) -> bool
     true
 }
 
-// The points of a run from an index on that want the page of that one.
-fn stretch_from<K: Lookup>(lookup: &mut K, geometry: &Geometry, span: &Span, i: u32) -> Stretch
+// The points of a run from an index on that want the page of that one. It keeps out of the loop over texels.
+#[inline(never)]
+fn stretch_from<K: Lookup>(lookup: &mut K, geometry: &Geometry, span: Span, i: u32) -> Stretch
     requires limits { IsWithinLimits geometry.now }
-    requires inside { IsSpanInside geometry.now span.now }
-    requires below { i < span.now.count }
+    requires inside { IsSpanInside geometry.now span }
+    requires below { i < span.count }
     requires shape { K.shape lookup.old ≡ geometry.now }
-    ensures stretch { IsStretch geometry.now (K.version lookup.new) (K.says lookup.new) span.now i result }
+    ensures stretch { IsStretch geometry.now (K.version lookup.new) (K.says lookup.new) span i result }
     ensures some { i < result.until }
     ensures said { (note : Note) → K.says lookup.old note → K.says lookup.new note }
     ensures version { K.version lookup.new ≡ K.version lookup.old }
     ensures shape { K.shape lookup.new ≡ K.shape lookup.old }
     ensures kept { K.kept lookup.new ≡ K.kept lookup.old }
 {
-    let point = point_of(span, i);
+    let point = point_of(&span, i);
     let page = page_at_place(geometry, point.level, point.x, point.y);
     let found = lookup.find(page);
     Stretch {
         page,
-        until: end_of_page(geometry, span, i),
+        until: end_of_page(geometry, &span, i),
         found,
     }
 }
@@ -103,17 +104,17 @@ fn stretch_from<K: Lookup>(lookup: &mut K, geometry: &Geometry, span: &Span, i: 
 fn stretch_for<K: Lookup>(
     lookup: &mut K,
     geometry: &Geometry,
-    span: &Span,
+    span: Span,
     i: u32,
     before: Stretch,
 ) -> Stretch
     requires limits { IsWithinLimits geometry.now }
-    requires inside { IsSpanInside geometry.now span.now }
-    requires below { i < span.now.count }
+    requires inside { IsSpanInside geometry.now span }
+    requires below { i < span.count }
     requires shape { K.shape lookup.old ≡ geometry.now }
     requires known { i ≤ before.until }
-    requires before { IsStretch geometry.now (K.version lookup.old) (K.says lookup.old) span.now i before }
-    ensures stretch { IsStretch geometry.now (K.version lookup.new) (K.says lookup.new) span.now i result }
+    requires before { IsStretch geometry.now (K.version lookup.old) (K.says lookup.old) span i before }
+    ensures stretch { IsStretch geometry.now (K.version lookup.new) (K.says lookup.new) span i result }
     ensures some { i < result.until }
     ensures said { (note : Note) → K.says lookup.old note → K.says lookup.new note }
     ensures version { K.version lookup.new ≡ K.version lookup.old }
@@ -153,9 +154,9 @@ fn read_each<K: Lookup, const DEPTH: u32>(
     if span.count == 0 {
         return;
     }
-    let mut stretch = stretch_from(lookup, geometry, &span, 0);
+    let mut stretch = stretch_from(lookup, geometry, span, 0);
     for i in 0..span.count {
-        stretch = stretch_for(lookup, geometry, &span, i, stretch);
+        stretch = stretch_for(lookup, geometry, span, i, stretch);
         let point = point_of(&span, i);
         let word = word_at_place(lookup, &stretch.found, point.level, point.x, point.y);
         put_word::<DEPTH>(out, i as usize, word);
