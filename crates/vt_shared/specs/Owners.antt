@@ -27,7 +27,7 @@ pub record IsOwning (words : WordsValue) (v : StreamerView) (out : List Bool) (d
   pub depth_is : IsDepth depth
   pub given : AreOfTiles v.shape depth v.writer.journal v.writer.contents
 
--- the shape, the frames, the passes that are out, and all that was taken back are as they were
+-- the shape, the frames, the passes that are out, and all that was taken back are as they were, and no floor rose without a look
 pub record HasKeptOwner (v w : StreamerView) : Type 0 where
   pub table : w.table ≡ v.table
   pub shape : w.shape ≡ v.shape
@@ -36,21 +36,20 @@ pub record HasKeptOwner (v w : StreamerView) : Type 0 where
   pub returned : w.writer.returned ≡ v.writer.returned
   pub notes : w.writer.notes ≡ v.writer.notes
   pub word_notes : w.writer.word_notes ≡ v.writer.word_notes
+  pub looked : HasOnlyLooked v.writer (record v.writer { floors = w.writer.floors; looks = w.writer.looks })
 
--- looks at the samplers said that none may still hold a version that maps the frame
-pub record WasLeft (v : WriterView) (frame : ℕ) : Type 0 where
-  pub seen : WriterView
-  pub looked : HasOnlyLooked v seen
-  pub may : MayFill seen frame
+-- by the floors that the writer has after the call, no sampler may still hold a version that maps the frame
+abbrev pub WasLeft : WriterView → WriterView → ℕ → Type 0
+WasLeft v w frame = MayFill (record v { floors = w.floors }) frame
 
--- no frame was written but this one, and this one only once looks said that none may still hold a version that maps it
+-- no frame was written but this one, and this one only where no sampler may still hold a version that maps it
 pub record HasWrittenFrame (v : StreamerView) (frame : ℕ) (w : StreamerView) : Type 0 where
   pub others : (f : ℕ) → f < length v.owners → f ≢ frame → frame_words v.writer.sizes w.writer.texels f ≡ frame_words v.writer.sizes v.writer.texels f
-  pub own : (w.writer.texels ≡ v.writer.texels) ⊎ WasLeft v.writer frame
+  pub own : (w.writer.texels ≡ v.writer.texels) ⊎ WasLeft v.writer w.writer frame
 
 -- the next version maps a page to a frame, with the words of a tile; the frame was filled when no sampler could hold a version that maps it
 pub record HasMappedNext (v : StreamerView) (page frame : ℕ) (tile : List ℕ) (w : StreamerView) : Type 0 where
-  pub left : WasLeft v.writer frame
+  pub left : WasLeft v.writer w.writer frame
   pub journal : w.writer.journal ≡ v.writer.journal ++ Map page frame ∷ []
   pub contents : w.writer.contents ≡ v.writer.contents ++ words_in v.shape tile ∷ []
 
@@ -59,24 +58,24 @@ pub record HasUnmappedNext (v : StreamerView) (page frame : ℕ) (w : StreamerVi
   pub journal : w.writer.journal ≡ v.writer.journal ++ Unmap page frame ∷ []
   pub contents : w.writer.contents ≡ v.writer.contents ++ [] ∷ []
 
--- a sampler is waited for, the least that may hold a version below one: it announced one of them when it was looked at last
-pub record IsSamplerAwaited (w : WriterView) (least sampler holds : ℕ) : Type 0 where
+-- a sampler is waited for, the least that may hold a version below one: by the last look, which was made since, it announced one of them
+pub record IsSamplerAwaited (v w : WriterView) (least sampler holds : ℕ) : Type 0 where
   pub inside : sampler < w.sizes.samplers
   pub below : holds < least
   pub low : floor_of w sampler < least
-  pub earlier : List Look
-  pub looked : w.looks ≡ record { sampler = sampler; word = holds + 1 } ∷ earlier
+  pub before : List Look
+  pub looked : w.looks ≡ record { sampler = sampler; word = holds + 1 } ∷ (before ++ v.looks)
   pub others : (k : ℕ) → k < sampler → least ≤ floor_of w k
 
 -- the next version waits for a sampler that may hold one more than two before the newest
 abbrev pub AwaitsBank : StreamerView → StreamerView → ℕ → ℕ → Type 0
-AwaitsBank v w sampler holds = IsSamplerAwaited w.writer (version_of v.writer - 2) sampler holds
+AwaitsBank v w sampler holds = IsSamplerAwaited v.writer w.writer (version_of v.writer - 2) sampler holds
 
 -- or a frame waits for a sampler that may hold a version before the one that unmapped it
 pub record AwaitsFrame (v : StreamerView) (frame : ℕ) (w : StreamerView) (sampler holds : ℕ) : Type 0 where
   pub version : ℕ
   pub unmapped : IsUnmappedBy v.writer.journal frame version
-  pub awaited : IsSamplerAwaited w.writer version sampler holds
+  pub awaited : IsSamplerAwaited v.writer w.writer version sampler holds
 
 -- a map waits for either
 abbrev pub AwaitsEither : StreamerView → ℕ → StreamerView → ℕ → ℕ → Type 0

@@ -179,14 +179,14 @@ impl Owner {
         self.table.frame_of(root).is_some()
     }
 
-    /// The first sampler whose pass is not out.
+    /// A sampler whose pass is not out. Those whose announcements lie on cache lines of their own come first.
     pub fn vacant(&self) -> Option<u32>
         ensures inside { IfSome result (λ k. k < self.now.words.sizes.samplers) }
         ensures absent { IfSome result (λ k. is_out self.now.streamer.writer k ≡ false) }
         ensures all { IfNone result ((k : ℕ) → k < self.now.words.sizes.samplers → is_out self.now.streamer.writer k ≡ true) }
     {
         let _depth = self.depth;
-        first_false(self.out.as_slice())
+        vacant_in(self.out.as_slice())
     }
 
     /// Admits a reader as a sampler whose pass is not out, where the root is mapped.
@@ -245,4 +245,35 @@ fn first_false(flags: &[bool]) -> Option<u32>
         }
     }
     None
+}
+
+// The first place that has false, from one on and then eight by eight.
+fn false_on_line(flags: &[bool], from: usize) -> Option<u32>
+    requires few { length flags.now ≤ most_samplers }
+    requires from { from < most_samplers }
+    ensures some { IfSome result (λ k. (k < length flags.now) × (slice_index_or flags.now k true ≡ false)) }
+{
+    for line in 0..8usize {
+        let k = 8 * line + from;
+        if k < flags.len() && !flags[k] {
+            return Some(k as u32);
+        }
+    }
+    None
+}
+
+// A place that has false. The newest version is word 0 and the announcements are the words behind it, so with eight words a line those of
+// samplers 7, 15, 23 .. 63 lie on lines of their own. They come first, then those that share a line with one of them, and last those that
+// share the line of the version.
+fn vacant_in(flags: &[bool]) -> Option<u32>
+    requires { length flags.now ≤ most_samplers }
+    ensures some { IfSome result (λ k. (k < length flags.now) × (slice_index_or flags.now k true ≡ false)) }
+    ensures none { IfNone result ((k : ℕ) → k < length flags.now → slice_index_or flags.now k false ≡ true) }
+{
+    for from in 7..15usize {
+        if let Some(k) = false_on_line(flags, from) {
+            return Some(k);
+        }
+    }
+    first_false(flags)
 }

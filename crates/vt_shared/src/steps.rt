@@ -38,7 +38,8 @@ pub(crate) fn is_free(streamer: &TableWriter, frame: u32) -> bool
     true
 }
 
-/// Fills a frame with the tile of a page and maps the page to it, as soon as no reader may hold a version that maps the frame.
+/// Fills a frame with the tile of a page and maps the page to it, as soon as no reader may hold a version that maps the frame. It looks
+/// whether it has to wait before it fills, so a step that waits costs no fill.
 pub(crate) fn put_page(
     words: &Words,
     streamer: &mut TableWriter,
@@ -65,9 +66,10 @@ pub(crate) fn put_page(
     ensures refused { OnErr result (streamer.new.writer.journal ≡ streamer.old.writer.journal) }
     ensures contents { OnErr result (streamer.new.writer.contents ≡ streamer.old.writer.contents) }
 {
+    streamer.try_bank(words)?;
     streamer.try_free(words, frame)?;
     streamer.fill(words, frame, page, tile);
-    streamer.try_publish(words, Change::Map { page, frame })?;
+    streamer.publish(words, Change::Map { page, frame });
     Ok(())
 }
 

@@ -16,6 +16,7 @@ use Rattle.vt_grace.specs.Notes.{entry_number}
 use Rattle.vt_grace.specs.Banks.{StandsForTable, MayWriteNext, MayPublishBank}
 use Rattle.vt_grace.proofs.Rows.{place_low, banks_apart}
 use Rattle.vt_streamer.specs.Banks.{new_entry, AreRotated, HasWrittenBank, HasPublished}
+use Rattle.vt_streamer.proofs.Looking.{looked_none}
 
 -- the table after a change, at its page and at another
 at_page : (m : Table) (c : Change) (q : ℕ) → q ≡ change_page c → new_entry c ≡ entry_number (changed m c q)
@@ -114,4 +115,4 @@ pub published_by : (v x y w : WriterView) (page entry : ℕ) (change : Change) �
 published_by v x y w page entry change entered step after =
     let all : w ≡ after_change (after_entry (record v { entries = x.entries }) page entry) change =
     after ∙ ap (λ (z : WriterView). after_change z change) (step ∙ ap (λ (z : WriterView). after_entry z page entry) entered.rest) in
-    subst (λ (z : WriterView). HasPublished v z change) (sym all) record { journal = refl; contents = refl; rest = refl }
+    subst (λ (z : WriterView). HasPublished v z change) (sym all) record { journal = refl; contents = refl; rest = refl; looked = looked_none v }

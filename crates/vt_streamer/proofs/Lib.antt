@@ -2,7 +2,7 @@ pub use Rattle.vt_table.proofs.FewChanges
 pub use Rattle.vt_table.proofs.Lawful
 pub use Rattle.vt_table.proofs.TileWords
 pub use Rattle.vt_table.proofs.Versions
-mod Looking
+pub mod Looking
 mod Lasting
 mod Leading
 mod Filling

@@ -10,6 +10,7 @@ use Rattle.vt_grace.specs.declared.views.WriterView.{WriterView}
 use Rattle.vt_grace.specs.WriterViews.{version_of}
 use Rattle.vt_grace.specs.Places.{entry_place, bank_of, content_of}
 use Rattle.vt_grace.specs.Banks.{StandsForTable}
+use Rattle.vt_streamer.specs.Looks.{HasOnlyLooked}
 
 -- the entry that a change gives its page
 abbrev pub new_entry : Change → ℕ
@@ -40,3 +41,4 @@ pub record HasPublished (v w : WriterView) (change : Change) : Type 0 where
   pub journal : w.journal ≡ v.journal ++ change ∷ []
   pub contents : w.contents ≡ v.contents ++ content_of v.sizes v.texels change ∷ []
   pub rest : w ≡ record v { journal = w.journal; contents = w.contents; entries = w.entries; floors = w.floors; looks = w.looks }
+  pub looked : HasOnlyLooked v (record v { floors = w.floors; looks = w.looks })

@@ -123,6 +123,26 @@ impl TableWriter {
         Ok(())
     }
 
+    /// Looks whether the next version may be made: no sampler may still hold one more than two before the newest. `Waiting` names the least
+    /// that announced such a version, by a look of this call. The words stay as they are.
+    pub fn try_bank(&mut self, words: &Words) -> Result<(), Waiting>
+        requires of { IsStreamerOf words.now self.old }
+        ensures of { IsStreamerOf words.now self.new }
+        ensures looked { HasOnlyLooked self.old.writer self.new.writer }
+        ensures rest { self.new ≡ record self.old { writer = self.new.writer } }
+        ensures may { OnOk result (MayWriteNext self.new.writer) }
+        ensures waiting { IfErr result (λ w.
+            IsFirstBehind self.old.writer self.new.writer (version_of self.old.writer - 2) w.sampler w.holds) }
+        ensures idle { ((k : ℕ) → is_out self.old.writer k ≡ false) → IsOk result }
+    {
+        let least = self.seat.version().saturating_sub(2);
+        let floors = self.floors.as_mut_slice();
+        if let Some(waiting) = reach_all(words, &mut self.seat, floors, self.samplers, least) {
+            return Err(waiting);
+        }
+        Ok(())
+    }
+
     /// Fills a frame that may be filled with the tile of a page: the bytes of its texels row by row, three samples a texel, of one byte
     /// each or of two, the most significant first. It takes no memory and refuses nothing.
     pub fn fill(&mut self, words: &Words, frame: u32, page: u32, tile: &[u8])
@@ -177,8 +197,8 @@ impl TableWriter {
         }
     }
 
-    // Publishes a change, where no floor is more than two versions behind.
-    fn publish(&mut self, words: &Words, change: Change) -> u64
+    /// Publishes a change, where no floor is more than two versions behind, as `try_bank` found. It takes no memory and refuses nothing.
+    pub fn publish(&mut self, words: &Words, change: Change) -> u64
         requires of { IsStreamerOf words.now self.old }
         requires may { MayWriteNext self.old.writer }
         requires room { version_of self.old.writer < most_versions }

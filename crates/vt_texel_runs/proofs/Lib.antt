@@ -1,3 +1,4 @@
 pub mod Answering
+pub mod Evenly
 pub mod Spanning
 pub mod Blending

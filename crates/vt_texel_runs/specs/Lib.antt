@@ -1,4 +1,5 @@
 pub mod Points
 pub mod Spans
+pub mod Stretches
 pub mod Blends
 pub mod BlendLaws

@@ -4,6 +4,7 @@
 mod blends;
 mod points;
 mod spans;
+mod stretches;
 
 pub use blends::blend_run;
 pub use points::{Point, are_points, read_all};

@@ -1,15 +1,17 @@
 //! Runs of texels at even steps, read over a look-up of pages.
 
-ghost use Rattle.std.specs.Prelude.{◌≡◌, ◌*◌, length};
+ghost use Rattle.std.specs.Prelude.{◌≡◌, ◌*◌, ◌<◌, ◌≤◌, length};
 ghost use Rattle.std.specs.Bool.{MatchBool};
 ghost use Rattle.vt_definitions.specs.Depths.{IsDepth, texel_length};
 ghost use Rattle.vt_pages.specs.Pages.{IsWithinLimits};
 ghost use Rattle.vt_draw.specs.Lookups.{Note};
 ghost use Rattle.vt_texel_runs.specs.Spans.{stepped, span_point, IsSpanInside, AreSpanned, AreWantedBySpan};
+ghost use Rattle.vt_texel_runs.specs.Stretches.{IsStretch};
 
-use crate::points::{Point, is_point};
+use crate::points::Point;
+use crate::stretches::{end_of_page, is_axis_inside};
 use vt_definitions::put_word;
-use vt_draw::{Lookup, found_for, page_at_place, word_at_place};
+use vt_draw::{Found, Lookup, page_at_place, word_at_place};
 use vt_pages::Geometry;
 
 /// A run of texels: the level at which they are wanted, the place of level 0 of the first one, the step from one to the next, and how many
@@ -45,38 +47,105 @@ fn point_of(span: &Span, i: u32) -> Point
     }
 }
 
-/// Whether all points of a run are the texture's.
+// Points of a run that want one page: the page, the index behind the last of them, and what was found for the page.
+#[derive(Clone, Copy)]
+struct Stretch {
+    page: u32,
+    until: u32,
+    found: Found,
+}
+
+/// Whether all points of a run are the texture's. The two ends decide.
 pub fn is_run(geometry: &Geometry, span: &Span) -> bool
     ensures { MatchBool result (IsSpanInside geometry.now span.now) (IsSpanInside geometry.now span.now → ⊥) }
 {
-    let width = geometry.width();
-    let height = geometry.height();
-    let levels = geometry.levels();
-    for i in 0..span.count {
-        if !is_point(width, height, levels, &point_of(span, i)) {
-            return false;
-        }
+    if span.count == 0 {
+        return true;
+    }
+    if span.level >= geometry.levels() {
+        return false;
+    }
+    let last = span.count - 1;
+    if !is_axis_inside(geometry.width(), span.x, span.step_x, last) {
+        return false;
+    }
+    if !is_axis_inside(geometry.height(), span.y, span.step_y, last) {
+        return false;
     }
     true
 }
 
-// Writes the bytes of a run of texels of DEPTH bytes a sample, and the page that each wants.
+// The points of a run from an index on that want the page of that one. It keeps out of the loop over texels.
+#[inline(never)]
+fn stretch_from<K: Lookup>(lookup: &mut K, geometry: &Geometry, span: Span, i: u32) -> Stretch
+    requires limits { IsWithinLimits geometry.now }
+    requires inside { IsSpanInside geometry.now span }
+    requires below { i < span.count }
+    requires shape { K.shape lookup.old ≡ geometry.now }
+    ensures stretch { IsStretch geometry.now (K.version lookup.new) (K.says lookup.new) span i result }
+    ensures some { i < result.until }
+    ensures said { (note : Note) → K.says lookup.old note → K.says lookup.new note }
+    ensures version { K.version lookup.new ≡ K.version lookup.old }
+    ensures shape { K.shape lookup.new ≡ K.shape lookup.old }
+    ensures kept { K.kept lookup.new ≡ K.kept lookup.old }
+{
+    let point = point_of(&span, i);
+    let page = page_at_place(geometry, point.level, point.x, point.y);
+    let found = lookup.find(page);
+    Stretch {
+        page,
+        until: end_of_page(geometry, &span, i),
+        found,
+    }
+}
+
+// The stretch of a point, given that of the point before: a new one only where that one ends.
+#[inline(always)]
+fn stretch_for<K: Lookup>(
+    lookup: &mut K,
+    geometry: &Geometry,
+    span: Span,
+    i: u32,
+    before: Stretch,
+) -> Stretch
+    requires limits { IsWithinLimits geometry.now }
+    requires inside { IsSpanInside geometry.now span }
+    requires below { i < span.count }
+    requires shape { K.shape lookup.old ≡ geometry.now }
+    requires known { i ≤ before.until }
+    requires before { IsStretch geometry.now (K.version lookup.old) (K.says lookup.old) span i before }
+    ensures stretch { IsStretch geometry.now (K.version lookup.new) (K.says lookup.new) span i result }
+    ensures some { i < result.until }
+    ensures said { (note : Note) → K.says lookup.old note → K.says lookup.new note }
+    ensures version { K.version lookup.new ≡ K.version lookup.old }
+    ensures shape { K.shape lookup.new ≡ K.shape lookup.old }
+    ensures kept { K.kept lookup.new ≡ K.kept lookup.old }
+{
+    if i == before.until {
+        stretch_from(lookup, geometry, span, i)
+    } else {
+        before
+    }
+}
+
+// Writes the bytes of a run of texels of DEPTH bytes a sample, and the page that each wants. It takes the span by value, for then no write
+// can be one to the span's numbers.
 #[inline(never)]
 fn read_each<K: Lookup, const DEPTH: u32>(
     lookup: &mut K,
     geometry: &Geometry,
-    span: &Span,
+    span: Span,
     out: &mut [u8],
     pages: &mut [u32],
 )
     requires depth { IsDepth DEPTH }
     requires limits { IsWithinLimits geometry.now }
-    requires inside { IsSpanInside geometry.now span.now }
-    requires bytes { length out.old ≡ texel_length DEPTH * span.now.count }
-    requires pages { length pages.old ≡ span.now.count }
+    requires inside { IsSpanInside geometry.now span }
+    requires bytes { length out.old ≡ texel_length DEPTH * span.count }
+    requires pages { length pages.old ≡ span.count }
     requires shape { K.shape lookup.old ≡ geometry.now }
-    ensures answered { AreSpanned geometry.now DEPTH (K.version lookup.new) (K.says lookup.new) span.now span.now.count out.new }
-    ensures wanted { AreWantedBySpan geometry.now span.now span.now.count pages.new }
+    ensures answered { AreSpanned geometry.now DEPTH (K.version lookup.new) (K.says lookup.new) span span.count out.new }
+    ensures wanted { AreWantedBySpan geometry.now span span.count pages.new }
     ensures said { (note : Note) → K.says lookup.old note → K.says lookup.new note }
     ensures version { K.version lookup.new ≡ K.version lookup.old }
     ensures shape { K.shape lookup.new ≡ K.shape lookup.old }
@@ -85,17 +154,13 @@ fn read_each<K: Lookup, const DEPTH: u32>(
     if span.count == 0 {
         return;
     }
-    let first = point_of(span, 0);
-    let mut wanted = page_at_place(geometry, first.level, first.x, first.y);
-    let mut found = lookup.find(wanted);
+    let mut stretch = stretch_from(lookup, geometry, span, 0);
     for i in 0..span.count {
-        let point = point_of(span, i);
-        let page = page_at_place(geometry, point.level, point.x, point.y);
-        found = found_for(lookup, wanted, found, page);
-        wanted = page;
-        let word = word_at_place(lookup, &found, point.level, point.x, point.y);
+        stretch = stretch_for(lookup, geometry, span, i, stretch);
+        let point = point_of(&span, i);
+        let word = word_at_place(lookup, &stretch.found, point.level, point.x, point.y);
         put_word::<DEPTH>(out, i as usize, word);
-        pages[i as usize] = page;
+        pages[i as usize] = stretch.page;
     }
 }
 
@@ -123,8 +188,8 @@ pub fn read_run<K: Lookup>(
     ensures kept { K.kept lookup.new ≡ K.kept lookup.old }
 {
     if depth == 1 {
-        read_each::<K, 1>(lookup, geometry, span, out, pages);
+        read_each::<K, 1>(lookup, geometry, *span, out, pages);
     } else {
-        read_each::<K, 2>(lookup, geometry, span, out, pages);
+        read_each::<K, 2>(lookup, geometry, *span, out, pages);
     }
 }
