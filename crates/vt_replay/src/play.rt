@@ -19,7 +19,7 @@ ghost use Rattle.vt_replay_rows.specs.ReplayLookups.{AreTiles};
 ghost use Rattle.vt_replay.specs.Replayed.{replayed_rows, pictures_of, replay_file, expected_replay};
 
 use crate::stream::slots_for;
-use crate::writing::write_picture;
+use crate::writing::{Picture, write_picture};
 use std::alloc::Global;
 use std::thread::Threads;
 use vt_camera::Path;
@@ -27,7 +27,7 @@ use vt_definitions::texel_length;
 use vt_journal::{Journal, JournalText, PassText};
 use vt_outside::{File, Folder, NoMemory, OutsideError};
 use vt_pages::Geometry;
-use vt_replay_rows::{Filter, PageTable, Part, Picture, Shot, Tiles, draw_version, parts_for};
+use vt_replay_rows::{Filter, PageTable, Part, Shot, Tiles, draw_version, parts_for};
 use vt_tiles::Store;
 
 /// The table that follows the journal, the loaded tiles, and the room to draw in: the samples of a picture, a count for each page,

@@ -11,10 +11,24 @@ ghost use Rattle.vt_replay_rows.specs.Pictures.{expected_picture};
 use std::alloc::Global;
 use vt_outside::{Folder, OutsideError, write_file};
 use vt_ppm::encode_into;
-use vt_replay_rows::{Picture, picture_name};
+use vt_replay_rows::picture_name;
 
-/// Writes a picture under its name, as `vt_pictures::write_picture` does, with its bytes made in a buffer, so that memory is taken for the
-/// first picture alone. The buffer may hold anything before and after.
+/// The samples of a picture: three a pixel, row by row from the top.
+#[derive(Clone, Copy)]
+pub(crate) struct Picture<'a> {
+    /// How many bytes a sample has, 1 or 2, the most significant first.
+    pub depth: u32,
+    /// The number of pixels of a row.
+    pub width: u32,
+    /// The number of rows.
+    pub height: u32,
+    /// The samples.
+    pub samples: &'a [u8],
+}
+
+/// Writes a picture under its name: the prefix, its number, which is below ten thousand, in four digits, and `.ppm`. After a refusal the
+/// name holds what it held, or a prefix of the picture's bytes; `Failed` comes only where the folder's count of faults rose. The bytes
+/// are made in a buffer, so that memory is taken for the first picture alone. The buffer may hold anything before and after.
 pub(crate) fn write_picture<D: Folder>(
     buffer: &mut Vec<u8>,
     alloc: Global,

@@ -14,4 +14,4 @@ pub use beside::{Part, parts_for};
 pub use table::PageTable;
 pub use tiles::Tiles;
 pub use version::draw_version;
-pub use vt_pictures::{Filter, Nearest, Picture, Shot, picture_name};
+pub use vt_pictures::{Filter, Nearest, Shot, picture_name};
