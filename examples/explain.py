@@ -3,8 +3,9 @@
 
     explain.py vtex WORDS..          as: explain.py vtex tile photo.png photo.vts
 
-The program's own lines and status stay as they are. Where the status is not 0, one line more goes to the error output, `explain: ` with the cause and
-what to do. It is found from the words and from the files as they stand after the run. Needs Python 3.9; docs/FORMATS.md has the rules.
+The program's own lines and status stay as they are. Where the status is not 0, one line more goes
+to the error output, `explain: ` with the cause and what to do. It is found from the words and from
+the files as they stand after the run. Needs Python 3.9; docs/FORMATS.md has the rules.
 """
 import difflib
 import os
@@ -123,7 +124,7 @@ def flaw_of_option(name, text):
 
 
 class Words:
-    """The words of a command, taken apart: the command, its names and its options; or the first flaw."""
+    """The words of a command: the command, its names and its options; or the first flaw."""
 
     def __init__(self, words):
         self.command, self.names, self.options = None, {}, {}
@@ -260,7 +261,7 @@ def is_text(word):
 
 
 def flaw_of_texels(words):
-    """Returns why a walk's words are refused by its store: F frames of T*T texels are at most 8,388,608."""
+    """Returns why a walk's frames are refused: F frames of T*T texels are at most 8,388,608."""
     store = words.names.get("STORE")
     if words.command != "walk" or kind_of(store) != "a tile store":
         return None
@@ -386,9 +387,9 @@ def flaw_of_content(words, line):
             " sign; at the byte that is named it is not"
         )
     if flaw.startswith("raster"):
+        have, want = re.findall(r"\d+", flaw)
         return (
-            f"{name} is cut off:"
-            f" {flaw.replace('raster of ', 'it has ').replace('wanted', 'and its header asks for')};"
+            f"{name} is cut off: it has {have} bytes behind its header, which asks for {want};"
             " write or download it again"
         )
     if flaw.startswith("sample over"):
@@ -551,14 +552,9 @@ def main(words):
         print(f"explain: the program was ended by signal {-ran.returncode}", file=sys.stderr)
         return 128 - ran.returncode
     if ran.returncode:
-        told = explain(words[1:], ran.returncode, ran.stderr.decode("utf-8", "replace"))
-        print(
-            (
-                "explain:"
-                f" {told or 'no cause is seen from outside; docs/FORMATS.md has the causes of each status'}"
-            ),
-            file=sys.stderr,
-        )
+        cause = explain(words[1:], ran.returncode, ran.stderr.decode("utf-8", "replace"))
+        unknown = "no cause is seen from outside; docs/FORMATS.md has the causes of each status"
+        print(f"explain: {cause or unknown}", file=sys.stderr)
     return ran.returncode
 
 

@@ -1,9 +1,11 @@
 #!/usr/bin/env python3
-"""Tests examples/explain.py: bad words, files, folders and paths, each with the program's status and line and what the explanation has to name.
+"""Tests examples/explain.py: bad words, files, folders and paths, each with the program's status
+and line and what the explanation has to name.
 
-usage: explain.py [PROGRAM]     (that of dist/, or crates/vtex/out/vtex if that is newer, where it is left out)
+usage: explain.py [PROGRAM]     (that of dist/, or crates/vtex/out/vtex if that is newer)
 
-The statuses and lines are those of docs/FORMATS.md. What an explanation names was written down case by case, before the tool was run.
+The statuses and lines are those of docs/FORMATS.md. What an explanation names was written down case
+by case, before the tool was run.
 """
 import os
 import struct
@@ -272,7 +274,7 @@ def write(name, data):
 def make_files(program):
     texture("photo.ppm", 200, 150)
     write("ok.path", PATH)
-    # Two pixels, of the pages 0 and 1 of a texture of four columns and rows: the smallest walk of docs/ENGINES.md.
+    # Two pixels, of the pages 0 and 1 of a texture of four columns and rows: the smallest walk.
     write("two.path", "size 2 1\nfocal 1\nat 0 0 256 16384 0\n")
     for words in (
         "tile photo.ppm photo.vts",
@@ -384,7 +386,7 @@ def main(words):
         os.chmod("closed", 0o555)
         python = "/usr/bin/python3"
         if os.getuid() == 0 and os.access(python, os.X_OK):
-            # As a user who may not write there. The program is copied to where that user may run it.
+            # As a user who may not write there. The program is copied to where they may run it.
             copied = os.path.join(room, "vtex")
             write(copied, open(program, "rb").read())
             os.chmod(copied, 0o755)

@@ -44,7 +44,7 @@ say "the flight of README.md"
 python3 - ~/vtex/README.md >commands <<'PYTHON'
 import re, sys
 text = open(sys.argv[1], encoding="utf-8").read()
-blocks = [block[0] or block[1] for block in re.findall(r"^```[a-z]*\n(.*?)^```|^((?: {4}.*\n)+)", text, re.DOTALL | re.MULTILINE)]
+blocks = [block[0] or block[1] for block in re.findall(r"^```[a-z]*\n(.*?)^```|^((?: {4}[^\n]*\n)+)", text, re.DOTALL | re.MULTILINE)]
 lines = [line.strip() for line in next(block for block in blocks if "vtex walk" in block).splitlines()]
 print("\n".join("vtex gen 7 2048 1024 photo.ppm" if line.startswith(("convert ", "vips ", "magick ")) else re.split(r" {2,}#", line)[0] for line in lines))
 PYTHON

@@ -1,12 +1,14 @@
 #!/usr/bin/env python3
 """Tests the viewer behind real web servers, with the browser's cache on, as visitors have it.
 
-usage: servers.py [--only TEST]
+usage: servers.py [--short] [--only TEST]
 
 The page stands behind nginx with the types of Debian's package (and once more with `expires 1h`), behind serve.py and
 behind Python's http.server. Each is visited cold, warm, and after its store was replaced. The requests are those that
 the servers note, the pixels are compared with the texels of the store's file, and what has to be asked for is worked
 out from the pixels. Then come servers that fail in each way for which the page has a sentence, and serve.py's own rules.
+
+`--short` leaves out the second nginx, and storage that is refused in three of four ways.
 
 Wants Chromium; without nginx its part is left out, which the output names. The last line has how many passed and failed.
 """
@@ -74,7 +76,7 @@ STALE = """new Promise((done) => {
   };
 })"""
 
-passed, failed = 0, 0
+passed, failed, is_short = 0, 0, False
 
 
 def check(good, what):
@@ -314,7 +316,8 @@ def test_nginx(there, room, root, file):
         return print(
             "left out: nginx, which is not installed (Debian: apt-get install nginx-light)"
         )
-    for name, more in (("nginx", ""), ("nginx, expires 1h", "expires 1h;")):
+    kinds = (("nginx", ""), ("nginx, expires 1h", "expires 1h;"))
+    for name, more in kinds[:1] if is_short else kinds:
         with Nginx(root, room, more) as server:
             try_visits(there, server, file, name)
 
@@ -343,7 +346,8 @@ def test_no_storage(there, room, root, file):
     gone = "Object.defineProperty(globalThis, 'indexedDB', { value: undefined });"
     full = "IDBObjectStore.prototype.put = () => { throw new DOMException('', 'QuotaExceededError'); };"
     with Own(os.path.join(root, "stores"), root) as server:
-        for name, script in (("refused", refuse), ("hangs", hang), ("none", gone), ("full", full)):
+        kinds = (("full", full), ("refused", refuse), ("hangs", hang), ("none", gone))
+        for name, script in kinds[:1] if is_short else kinds:
             visits = Visits(there, server, file, "storage " + name)
             visits.put(5)
             for time_of in ("first", "second"):
@@ -663,21 +667,25 @@ TESTS = (
 
 
 def main():
+    global is_short
     parser = argparse.ArgumentParser(
         description=__doc__, formatter_class=argparse.RawDescriptionHelpFormatter
     )
+    parser.add_argument("--short", action="store_true")
     parser.add_argument("--only")
     words = parser.parse_args()
+    is_short = words.short
+    chosen = [it for it in TESTS if words.only in (None, it.__name__)]
     if browser.find() is None:
         print("left out: the page behind servers, since Chromium is not installed")
-        print("0 passed, 0 failed")
-        return 0
-    with tempfile.TemporaryDirectory(prefix="vtex-servers-") as room, browser.Browser() as there:
+        chosen = [it for it in chosen if it is test_rules]
+    with contextlib.ExitStack() as held:
+        room = held.enter_context(tempfile.TemporaryDirectory(prefix="vtex-servers-"))
+        there = held.enter_context(browser.Browser()) if browser.find() else None
         root = os.path.join(room, "root")
         shutil.copytree(PAGE, root, ignore=shutil.ignore_patterns("*.py", "__pycache__"))
-        shutil.copy2(os.path.join(PAGE, "serve.py"), root)
         os.mkdir(os.path.join(root, "stores"))
-        for test in [it for it in TESTS if words.only in (None, it.__name__)]:
+        for test in chosen:
             begun = time.monotonic()
             test(there, room, root, os.path.join(root, "stores", "a.vts"))
             print("%s: %.0f s" % (test.__name__, time.monotonic() - begun), flush=True)

@@ -1,13 +1,15 @@
 #!/usr/bin/env python3
 """Tests the viewer of examples/viewer: its WebAssembly modules, and the page in headless Chromium.
 
-usage: viewer.py [--modules | --page] [--only TEST] [--shots FOLDER]
+usage: viewer.py [--node | --modules | --page] [--short] [--only TEST] [--shots FOLDER]
 
-`--modules`: the modules alone (modules.py); they want rt, `rt lib` in crates/vtex_c once, gcc and node. `--page`: the page alone; it wants Chromium. What is
-not installed is said to be left out. `--only`: one test of the page by its name. `--shots`: a folder for pictures of the page.
+`--node`: what needs node alone: vtex.js, and, with gcc and the library for C, both modules by 300 random runs beside it. `--modules`: this, and whether the
+modules are those of a fresh build, which wants rt and `rt lib` in crates/vtex_c once. `--page`: the page alone, in Chromium. `--short`: all but the fresh
+build, with fewer views, in one to two minutes. What is not installed is left out, and the output says so. `--only`: one test of the page by its name.
+`--shots`: a folder for pictures of the page.
 
 The page's pictures are compared with the texels of the store's file, which this script reads by itself; and the requests of the page, which the server
-notes, with the pages that the picture's pixels want.
+notes, with the pages that the picture's pixels want. The last line is `N passed, M failed`.
 """
 import argparse
 import os
@@ -26,7 +28,7 @@ from looks import Look, differ, flight_differs, mapped_of, pages_asked, reaches,
 from stores import Path, Store  # noqa: E402
 
 WIDE, HIGH = 320, 200
-passed, failed, left_out = 0, 0, []
+passed, failed, left_out, is_short = 0, 0, [], False
 
 
 def say(good, what):
@@ -60,7 +62,8 @@ def views_of(store, number):
     """Some maps of a store: whole, and of texels and parts of texels, near its middle and its corners."""
     g, choose = store.geometry, random.Random(number)
     yield "", None
-    for scale in (1, 0.5, 2, 3, 0.078125, choose.randrange(8, 640) / 64):
+    scales = (1, 0.5, 2, 3, 0.078125, choose.randrange(8, 640) / 64)
+    for scale in scales[: 2 if is_short else None]:
         u, v = choose.choice([(g.width / 2, g.height / 2), (0, 0), (g.width, 0), (choose.randrange(g.width), choose.randrange(g.height))])
         yield "#map=%s,%s,%s" % (u, v, scale), (u, v, scale)
 
@@ -89,7 +92,7 @@ def test_maps(site, there, stores):
 def test_blends(site, there, stores):
     """Bilinear maps are the blends of the store's texels, but for the rounding of the last bit."""
     for name in ("a", "wide", "small"):
-        for words, view in list(views_of(stores[name], 5))[1:5]:
+        for words, view in list(views_of(stores[name], 5))[1 : 2 if is_short else 5]:
             page = there.open("%s?store=stores/%s.vts%s&filter=bilinear" % (site.base, name, words), WIDE, HIGH)
             say(sharp(page), name + words + ": a blend becomes sharp")
             look = Look(stores[name], WIDE, HIGH, view, is_bilinear=True)
@@ -102,7 +105,7 @@ def test_flights(site, there, stores):
     """Flights are those of `vtex walk` but for pixels at the edge of a texel, since the page computes in floats; a path is played to its end."""
     text = b"size 320 200\nfocal 160\nat 0 0 10240 16384 0\nat 30000 60000 20480 -11585 11585\nto 12 60000 9000 30480 14000 6000\n"
     path = Path(text)
-    for picture in (0, 1, 13):
+    for picture in (1,) if is_short else (0, 1, 13):
         u, v, h, c, s = path.cameras[picture]
         page = there.open(site.base + "?store=stores/a.vts&bare", WIDE, HIGH)
         say(sharp(page), "before a flight")
@@ -291,19 +294,21 @@ def test_page(shots, only):
 
 
 def main():
+    global is_short
     parser = argparse.ArgumentParser(description=__doc__, formatter_class=argparse.RawDescriptionHelpFormatter)
-    parser.add_argument("--modules", action="store_true")
-    parser.add_argument("--page", action="store_true")
+    for name in ("--node", "--modules", "--page", "--short"):
+        parser.add_argument(name, action="store_true")
     parser.add_argument("--shots")
     parser.add_argument("--only")
     words = parser.parse_args()
-    if not words.page:
-        absent = modules.missing()
-        if absent:
-            left_out.append("the modules, since %s is not installed" % absent)
-        else:
-            modules.check(say)
-    if not words.modules:
+    is_short = words.short
+    if not words.page and shutil.which("node") is None:
+        left_out.append("the modules in node, which is not installed (Debian: apt-get install nodejs)")
+    elif not words.page:
+        modules.check_node(say, left_out.append)
+    if not (words.page or words.node or words.short):
+        modules.check_build(say, left_out.append)
+    if not (words.modules or words.node):
         if browser.find() is None:
             left_out.append("the page, since Chromium is not installed (Debian: apt-get install chromium)")
         else:

@@ -1,17 +1,21 @@
-"""Tile stores of vtex as arrays, from Python: the library for C by ctypes, with no package to install.
+"""Tile stores of vtex as arrays, from Python: the library for C by ctypes, without a package.
 
     import vtex
     with vtex.Store("earth.vts", frames=256) as store:
         print(store.width, store.height, store.levels)
-        image = store.region(level=3, x=0, y=0, width=512, height=256)      # reads the tiles that it needs
-        again = store.region(3, 0, 0, 512, 256, load=False)                 # reads nothing: the finest texels that are loaded
-        print(store.residency())                                            # the pages that have a frame
+        # Reads the tiles that it needs.
+        image = store.region(level=3, x=0, y=0, width=512, height=256)
+        # Reads nothing: the finest texels that are in memory.
+        again = store.region(3, 0, 0, 512, 256, load=False)
+        # The pages that have a frame.
+        print(store.residency())
 
-A store keeps at most `frames` tiles in memory and gives up the least recently used one. A region comes as bytes, row by row from the top: three
-samples a texel, each of `depth` bytes, the most significant first. `array` gives the same as a numpy array, if numpy is installed.
+A store keeps at most `frames` tiles in memory and gives up the least recently used one. A region is
+returned as bytes, row by row from the top: three samples a texel, each of `depth` bytes, the most
+significant first. `array` returns the same as a numpy array, if numpy is installed.
 
-The shared library is that of VTEX_LIBRARY, or libvtex.so.1 where the loader or this file's own prefix has it (`sh dist/install.sh PREFIX`).
-Calls on one store are for one thread at a time.
+The shared library is that of VTEX_LIBRARY, or libvtex.so.1 where the loader or this file's own
+prefix has it (`sh dist/install.sh PREFIX`). Only one thread at a time may call a store.
 """
 import ctypes
 import os
@@ -77,7 +81,7 @@ _library = None
 
 
 def library():
-    """Returns the shared library, which the first call loads. Raises OSError where there is none."""
+    """Returns the shared library, which the first call loads. Raises OSError without one."""
     global _library
     if _library is None:
         beside = os.path.normpath(
@@ -117,9 +121,11 @@ def _done(what, status):
 class Store:
     """A tile store, of which at most `frames` tiles are in memory.
 
-    `width` and `height` are the texture's sides in texels, `tile` the side of a tile, `depth` how many bytes a sample has (1 or 2), `levels` how many
-    mip levels there are (0 is the finest), `pages` how many pages they have together. `frames` is from 1 to 65,535.
-    Raises OSError where the file cannot be read, and VtexError where it is no store or `frames` is outside its bounds.
+    `width` and `height` are the texture's sides in texels, `tile` is the side of a tile, `depth`
+    the number of bytes of a sample (1 or 2), `levels` the number of mip levels (0 is the finest),
+    `pages` the number of pages of all levels. `frames` is from 1 to 65,535.
+    Raises OSError where the file cannot be read, and VtexError where it is no store or `frames` is
+    outside its bounds.
     """
 
     def __init__(self, name, frames=256):
@@ -163,7 +169,7 @@ class Store:
         self.close()
 
     def close(self):
-        """Closes the file and gives the memory back. A store that is closed may be closed again, and nothing else."""
+        """Closes the file and frees the memory. On a closed store only `close` may be called."""
         if self._cache is not None:
             self._library.vtex_cache_close(self._cache)
             self._cache, self._tiles = None, {}
@@ -175,10 +181,13 @@ class Store:
         return info.width, info.height
 
     def region(self, level, x, y, width, height, load=True):
-        """Returns the texels of a part of a level, as bytes: `width` times `height` texels from column x and row y on.
+        """Returns `width` times `height` texels of a level from column x and row y on, as bytes.
 
-        With `load` each is the store's texel, and the tiles that are not in memory are read. Without it nothing is read: a texel whose page is not in
-        memory comes from the finest coarser page over the same place that is. Raises VtexError where the part is not inside the level.
+        With `load` each is the store's texel, and the tiles that are not in memory are read; that
+        needs `levels - level` frames. Without it nothing is read: a texel whose page is not in
+        memory is taken from the finest coarser page over the same place that is. Raises VtexError
+        where the part is not inside the level or the frames are too few, and OSError where a read
+        fails.
         """
         info = self._level(level)
         numbers = (x, y, width, height)
@@ -201,21 +210,17 @@ class Store:
             return bytes(out)
         columns = range(x // self.tile, (x + width - 1) // self.tile + 1)
         rows = range(y // self.tile, (y + height - 1) // self.tile + 1)
-        pages = [
-            (self._page(level, column, row), column, row) for row in rows for column in columns
-        ]
-        # One frame is the root's, so a group of pages that fits beside it stays in memory until it is copied.
-        at_once = max(self.frames - 1, 1) if load else len(pages)
-        for first in range(0, len(pages), at_once):
-            group = pages[first : first + at_once]
+        places = [(column, row) for row in rows for column in columns]
+        for group in self._groups(level, places) if load else [places]:
+            pages = [self._page(level, column, row) for column, row in group]
             if load:
-                self._load([page for page, _, _ in group])
-            for page, column, row in group:
+                self._load(pages)
+            for page, (column, row) in zip(pages, group):
                 self._copy(page, level, column, row, (x, y, width, height), out, load)
         return bytes(out)
 
     def array(self, level, x, y, width, height, load=True):
-        """Returns `region` as a numpy array of height, width and 3, of uint8 or uint16. Needs numpy."""
+        """Returns `region` as a numpy array of shape (height, width, 3), of uint8 or uint16."""
         import numpy
 
         data = numpy.frombuffer(
@@ -226,7 +231,7 @@ class Store:
         )
 
     def residency(self):
-        """Returns the pages that are in memory: a list of (level, column, row, frame), coarse levels last."""
+        """Returns the pages in memory: a list of (level, column, row, frame), fine ones first."""
         self._open()
         found = []
         for level in range(self.levels):
@@ -281,7 +286,7 @@ class Store:
         return page.value
 
     def _upload(self):
-        """Reads the tiles of the pages that the last settling mapped, and forgets those of the pages that it took out."""
+        """Takes in the tiles of the pages that the last settling mapped, and drops the others."""
         changes = (
             _Change * self._library.vtex_cache_changes(self._cache, ctypes.byref(_Change()), 0)
         )()
@@ -306,8 +311,28 @@ class Store:
             )
         return data
 
+    def _groups(self, level, places):
+        """Returns the pages of a level in groups that fit into the frames with their ancestors.
+
+        The cache loads a coarser page over a place before a finer one, and keeps it while the finer
+        one is wanted. The root has a frame of its own.
+        """
+        if self.levels - level > self.frames:
+            what = f"level {level} needs {self.levels - level} frames, and there are {self.frames}"
+            raise VtexError(what, 2)
+        groups, held = [], set()
+        for column, row in places:
+            ups = range(self.levels - 1 - level)
+            line = {(level + up, column >> up, row >> up) for up in ups}
+            if not groups or len(held | line) >= self.frames:
+                groups.append([])
+                held = set()
+            groups[-1].append((column, row))
+            held |= line
+        return groups
+
     def _load(self, pages):
-        """Loads pages until all are in memory. They fit beside the root, and the cache gives up no page that is wanted."""
+        """Loads pages until all are in memory. They are one group of `_groups`."""
         wanted = (_u32 * len(pages))(*pages)
         while True:
             _done(
@@ -326,7 +351,7 @@ class Store:
                     self._read[load.page] = self._tile(load.page)
                     states[place] = 0
             finally:
-                # What was read counts, also where a read failed; the rest is lost and may be planned again.
+                # What was read counts, also where a read failed. The rest is planned again.
                 _done("settling", self._library.vtex_cache_settle(self._cache, states, len(states)))
                 self._upload()
                 self._read = {}
@@ -339,7 +364,7 @@ class Store:
             f"page {page}", self._library.vtex_cache_look_up(self._cache, page, ctypes.byref(found))
         )
         if exact and found.page != page:
-            raise VtexError(f"page {page}, whose {self.frames} frames are too few", 2)
+            raise VtexError(f"page {page}, which is not in memory", 2)
         tile, side, size, up = (
             self._tiles[found.frame],
             self.tile,
@@ -366,9 +391,11 @@ def main(words):
         return 2
     try:
         numbers = [int(word) for word in words[1:6]]
-        with Store(words[0]) as store, open(words[6], "wb") as out:
+        with Store(words[0]) as store:
             data = store.region(*numbers)
-            out.write(b"P6\n%d %d\n%d\n" % (numbers[3], numbers[4], 256**store.depth - 1) + data)
+            head = b"P6\n%d %d\n%d\n" % (numbers[3], numbers[4], 256**store.depth - 1)
+        with open(words[6], "wb") as out:
+            out.write(head + data)
     except (OSError, ValueError, VtexError) as error:
         print(f"vtex.py: {error}", file=sys.stderr)
         return 1

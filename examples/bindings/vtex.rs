@@ -1,10 +1,13 @@
-//! Tile stores of vtex from Rust: the library for C by `extern "C"`, in one file and with no package.
+//! Tile stores of vtex from Rust: the library for C by `extern "C"`, in one file without a package.
 //!
-//!     rustc -O vtex.rs -L PREFIX/lib -l static=vtex_c && ./vtex STORE LEVEL X Y WIDTH HEIGHT >part.ppm
+//!     rustc -O vtex.rs -L PREFIX/lib -l static=vtex_c
+//!     ./vtex STORE LEVEL X Y WIDTH HEIGHT >part.ppm
 //!
-//! `sh dist/install.sh PREFIX` installs the library. `Store` reads parts of a level; at most `frames` tiles are in memory, and the least recently used
-//! one is given up. In a crate of your own, leave out `main` and put the two flags into build.rs.
+//! `sh dist/install.sh PREFIX` installs the library. `Store` reads parts of a level; at most
+//! `frames` tiles are in memory, and the least recently used one is given up. In a crate of your
+//! own, leave out `main` and put the two flags into build.rs.
 
+use std::collections::HashSet;
 use std::ffi::c_void;
 use std::fmt;
 use std::fs::File;
@@ -71,9 +74,13 @@ struct Extent {
 #[derive(Clone, Copy, Default)]
 struct Triple(u32, u32, u32);
 
+// An index with a column and a row, or a level with them.
+type Page = (u32, u32, u32);
+
 extern "C" {
     fn vtex_store_open(head: *const u8, count: usize, length: u64, store: *mut Head) -> u32;
     fn vtex_store_tile(store: *const Head, page: u32, range: *mut Extent) -> u32;
+    fn vtex_level_count(shape: *const Shape, levels: *mut u32) -> u32;
     fn vtex_level(shape: *const Shape, level: u32, info: *mut Level) -> u32;
     fn vtex_cache_size() -> usize;
     fn vtex_cache_init(at: *mut c_void);
@@ -87,15 +94,20 @@ extern "C" {
 }
 
 fn done(status: u32) -> Result<(), Status> {
-    if status == 0 { Ok(()) } else { Err(Status(status)) }
+    if status == 0 {
+        Ok(())
+    } else {
+        Err(Status(status))
+    }
 }
 
-// A place for no record, which is not null: with a room of 0 a call returns its count and writes nothing.
+// A place for no record, which is not null: with room for 0 records a call returns their number.
 fn nothing() -> *mut Triple {
     std::ptr::NonNull::dangling().as_ptr()
 }
 
-/// A tile store, of which at most `frames` tiles are in memory. Calls take `&mut self`, so one thread at a time makes them.
+/// A tile store, of which at most `frames` tiles are in memory. Calls take `&mut self`, so one
+/// thread at a time makes them.
 pub struct Store {
     file: File,
     head: Head,
@@ -107,17 +119,24 @@ pub struct Store {
 }
 
 impl Store {
-    /// Opens a store for so many frames, from 1 to 65,535. It is an error if the file cannot be read or is no store.
+    /// Opens a store with `frames` frames, from 1 to 65,535. It is an error if the file cannot be
+    /// read or is no store.
     pub fn open(name: &str, frames: u32) -> io::Result<Store> {
-        let mut file = File::open(name)?;
+        let file = File::open(name)?;
         let length = file.metadata()?.len();
         let mut bytes = Vec::new();
-        file.by_ref().take(16).read_to_end(&mut bytes)?;
+        (&file).take(16).read_to_end(&mut bytes)?;
         let mut head = Head::default();
         done(unsafe { vtex_store_open(bytes.as_ptr(), bytes.len(), length, &mut head) })?;
         let mut cache = vec![0; unsafe { vtex_cache_size() } / 8 + 1].into_boxed_slice();
         unsafe { vtex_cache_init(cache.as_mut_ptr().cast()) };
-        let mut store = Store { file, head, frames, cache, tiles: Vec::new() };
+        let mut store = Store {
+            file,
+            head,
+            frames,
+            cache,
+            tiles: Vec::new(),
+        };
         done(unsafe { vtex_cache_open(store.at(), &store.head.shape, frames, 1) })?;
         store.tiles.resize(frames as usize, Vec::new());
         store.upload(&mut Vec::new())?;
@@ -134,11 +153,22 @@ impl Store {
         self.head.depth
     }
 
-    /// The texels of a part of a level, row by row from the top, three samples each. It is an error if the part is not inside the level.
-    pub fn region(&mut self, level: u32, x: u32, y: u32, width: u32, height: u32) -> io::Result<Vec<u8>> {
+    /// Returns the texels of a part of a level, row by row from the top, three samples each. It is
+    /// an error if the part is not inside the level, or if there are fewer frames than levels from
+    /// this one to the last.
+    pub fn region(
+        &mut self,
+        level: u32,
+        x: u32,
+        y: u32,
+        width: u32,
+        height: u32,
+    ) -> io::Result<Vec<u8>> {
         let mut info = Level::default();
         done(unsafe { vtex_level(&self.head.shape, level, &mut info) })?;
-        let inside = |from: u32, count: u32, side: u32| from.checked_add(count).is_some_and(|end| end <= side);
+        let inside = |from: u32, count: u32, side: u32| {
+            from.checked_add(count).is_some_and(|end| end <= side)
+        };
         if !inside(x, width, info.width) || !inside(y, height, info.height) {
             return Err(Status(2).into());
         }
@@ -148,13 +178,20 @@ impl Store {
             return Ok(out);
         }
         let side = self.head.shape.tile;
-        let (columns, rows) = (x / side..(x + width - 1) / side + 1, y / side..(y + height - 1) / side + 1);
-        let pages: Vec<(u32, u32, u32)> =
-            rows.flat_map(|row| columns.clone().map(move |column| (info.first + row * info.columns + column, column, row))).collect();
-        // One frame is the root's, so a group of pages that fits beside it stays in memory until it is copied.
-        for group in pages.chunks(self.frames.saturating_sub(1).max(1) as usize) {
+        let (columns, rows) = (
+            x / side..(x + width - 1) / side + 1,
+            y / side..(y + height - 1) / side + 1,
+        );
+        let pages: Vec<Page> = rows
+            .flat_map(|row| {
+                columns
+                    .clone()
+                    .map(move |column| (info.first + row * info.columns + column, column, row))
+            })
+            .collect();
+        for group in self.groups(level, pages)? {
             self.load(&group.iter().map(|page| page.0).collect::<Vec<u32>>())?;
-            for &(page, column, row) in group {
+            for (page, column, row) in group {
                 let mut found = Triple::default();
                 done(unsafe { vtex_cache_look_up(self.at(), page, &mut found) })?;
                 if found.0 != page {
@@ -164,13 +201,40 @@ impl Store {
                 let (left, right) = (x.max(column * side), (x + width).min((column + 1) * side));
                 for line in y.max(row * side)..(y + height).min((row + 1) * side) {
                     let to = size * ((line - y) as usize * width as usize + (left - x) as usize);
-                    let from = size * ((line % side) as usize * side as usize + (left % side) as usize);
+                    let from =
+                        size * ((line % side) as usize * side as usize + (left % side) as usize);
                     let count = size * (right - left) as usize;
                     out[to..to + count].copy_from_slice(&tile[from..from + count]);
                 }
             }
         }
         Ok(out)
+    }
+
+    // Returns the pages of a level in groups that fit into the frames with their ancestors. The
+    // cache loads a coarser page over a place before a finer one, and keeps it while the finer one
+    // is wanted. The root has a frame of its own.
+    fn groups(&self, level: u32, pages: Vec<Page>) -> io::Result<Vec<Vec<Page>>> {
+        let mut levels = 0;
+        done(unsafe { vtex_level_count(&self.head.shape, &mut levels) })?;
+        if levels - level > self.frames {
+            return Err(Status(2).into());
+        }
+        let (mut groups, mut held): (Vec<Vec<Page>>, HashSet<Page>) = (Vec::new(), HashSet::new());
+        for (page, column, row) in pages {
+            let line = (0..levels - 1 - level).map(|up| (level + up, column >> up, row >> up));
+            let more = line.clone().filter(|it| !held.contains(it)).count();
+            if groups.is_empty() || held.len() + more >= self.frames as usize {
+                groups.push(Vec::new());
+                held.clear();
+            }
+            held.extend(line);
+            groups
+                .last_mut()
+                .expect("there is a group")
+                .push((page, column, row));
+        }
+        Ok(groups)
     }
 
     fn at(&mut self) -> *mut c_void {
@@ -186,7 +250,8 @@ impl Store {
         Ok(tile)
     }
 
-    // Puts the tiles of the pages that the last settling mapped into their frames: those that were read for it, else from the file.
+    // Puts the tiles of the pages that the last settling mapped into their frames: those that were
+    // read for it, else from the file.
     fn upload(&mut self, read: &mut Vec<(u32, Vec<u8>)>) -> io::Result<()> {
         let count = unsafe { vtex_cache_changes(self.at(), nothing(), 0) } as usize;
         let mut changes = vec![Triple::default(); count];
@@ -201,7 +266,7 @@ impl Store {
         Ok(())
     }
 
-    // Loads pages until all are in memory. They fit beside the root, and the cache gives up no page that is wanted.
+    // Loads pages until all are in memory. They are one group of `groups`.
     fn load(&mut self, pages: &[u32]) -> io::Result<()> {
         loop {
             done(unsafe { vtex_cache_pass_pages(self.at(), pages.as_ptr(), pages.len(), 64) })?;
@@ -212,7 +277,8 @@ impl Store {
             let mut loads = vec![Triple::default(); count];
             unsafe { vtex_cache_loads(self.at(), loads.as_mut_ptr(), count) };
             let mut read = Vec::new();
-            let tiles: Vec<io::Result<Vec<u8>>> = loads.iter().map(|load| self.tile(load.0)).collect();
+            let tiles: Vec<io::Result<Vec<u8>>> =
+                loads.iter().map(|load| self.tile(load.0)).collect();
             let states: Vec<u8> = tiles.iter().map(|tile| u8::from(tile.is_err())).collect();
             let mut failure = None;
             for (load, tile) in loads.iter().zip(tiles) {
@@ -221,7 +287,7 @@ impl Store {
                     Err(error) => failure = Some(error),
                 }
             }
-            // What was read counts, also where a read failed; the rest is lost and may be planned again.
+            // What was read counts, also where a read failed. The rest is planned again.
             done(unsafe { vtex_cache_settle(self.at(), states.as_ptr(), count) })?;
             self.upload(&mut read)?;
             if let Some(error) = failure {
@@ -239,7 +305,11 @@ impl Drop for Store {
 
 fn main() -> io::Result<()> {
     let words: Vec<String> = std::env::args().skip(1).collect();
-    let numbers: Vec<u32> = words.iter().skip(1).filter_map(|word| word.parse().ok()).collect();
+    let numbers: Vec<u32> = words
+        .iter()
+        .skip(1)
+        .filter_map(|word| word.parse().ok())
+        .collect();
     if words.len() != 6 || numbers.len() != 5 {
         eprintln!("usage: vtex STORE LEVEL X Y WIDTH HEIGHT >PART.ppm");
         std::process::exit(2);
@@ -247,6 +317,12 @@ fn main() -> io::Result<()> {
     let mut store = Store::open(&words[0], 256)?;
     let part = store.region(numbers[0], numbers[1], numbers[2], numbers[3], numbers[4])?;
     let mut out = io::stdout().lock();
-    write!(out, "P6\n{} {}\n{}\n", numbers[3], numbers[4], if store.depth() == 2 { 65535 } else { 255 })?;
+    write!(
+        out,
+        "P6\n{} {}\n{}\n",
+        numbers[3],
+        numbers[4],
+        if store.depth() == 2 { 65535 } else { 255 }
+    )?;
     out.write_all(&part)
 }
