@@ -124,7 +124,7 @@ static void run_table(long most, uint32_t status[6]) {
     vtex_table_init(table);
     vtex_reader_init(reader);
     ASK(status[0], vtex_table_open(table, &four, 1, 3, 2), is_closed());
-    ASK(status[1], vtex_table_map(table, 4, 0, tile, 12, &who), vtex_table_admit(table, reader) == VTEX_BAD_NUMBER);
+    ASK(status[1], vtex_table_map(table, 4, 0, tile, 12, &who), vtex_table_admit(table, reader) == VTEX_BAD_ORDER);
     ASK(status[2], vtex_table_admit(table, reader), vtex_reader_number(reader, &number) == VTEX_CLOSED);
     ASK(status[3], vtex_table_map(table, 0, 1, tile, 12, &who), shows(1, 4));
     read_without_memory();
@@ -133,7 +133,7 @@ static void run_table(long most, uint32_t status[6]) {
     CHECK(vtex_table_dismiss(table, reader) == VTEX_DONE);
     /* an opening anew that is refused leaves the table open as it was */
     ASK(status[5], vtex_table_open(table, &four, 2, 2, 1), is_narrow(3));
-    CHECK(vtex_table_admit(table, reader) == VTEX_BAD_NUMBER);
+    CHECK(vtex_table_admit(table, reader) == VTEX_BAD_ORDER);
     CHECK(vtex_table_close(table) == VTEX_DONE);
     CHECK(live == 0);
 }

@@ -61,7 +61,7 @@ static void opened(void) {
     CHECK(vtex_table_open(table, &four, 1, 4, 65) == VTEX_BAD_NUMBER);
     closed();
     CHECK(vtex_table_open(table, &four, 1, 4, 2) == VTEX_DONE);
-    CHECK(vtex_table_admit(table, readers[0]) == VTEX_BAD_NUMBER); /* the root is not mapped */
+    CHECK(vtex_table_admit(table, readers[0]) == VTEX_BAD_ORDER); /* the root is not mapped */
     CHECK(map(5, 0) == VTEX_BAD_NUMBER);
     CHECK(map(4, 4) == VTEX_BAD_NUMBER);
     CHECK(vtex_table_map(table, 4, 0, tile_of(4), 11, &who) == VTEX_BAD_NUMBER);
@@ -77,9 +77,9 @@ static void opened(void) {
 static void admitted(void) {
     uint32_t number = 99;
     CHECK(vtex_table_admit(table, readers[0]) == VTEX_DONE);
-    CHECK(vtex_table_admit(table, readers[0]) == VTEX_BAD_NUMBER);
+    CHECK(vtex_table_admit(table, readers[0]) == VTEX_BAD_ORDER);
     CHECK(vtex_table_admit(table, readers[1]) == VTEX_DONE);
-    CHECK(vtex_table_admit(table, readers[2]) == VTEX_BAD_NUMBER);
+    CHECK(vtex_table_admit(table, readers[2]) == VTEX_NO_SEAT);
     CHECK(vtex_reader_number(readers[0], &number) == VTEX_DONE && number == 0);
     CHECK(vtex_reader_number(readers[1], &number) == VTEX_DONE && number == 1);
     CHECK(vtex_reader_release(readers[0]) == VTEX_NOT_HELD);

@@ -30,6 +30,7 @@ pub record RoundStockView (F : Type 0) : Type 0 where
 pub record AreNew (capacity : ℕ) (q : Queues) (asks : QueuePass Request) (answers : QueuePass Loaded) : Type 0 where
   pub passes : AreOf q asks answers
   pub room : capacity_of q.requests ≡ capacity
+  pub answers_room : capacity_of q.results ≡ capacity
   pub no_asks : queue_view_of asks ≡ first_view
   pub no_answers : queue_view_of answers ≡ first_view
   pub asks_splits : queue_splits_of asks + 1 ≡ all_shares
@@ -52,6 +53,7 @@ pub record IsAsked {F : Type 0} (q : Queues) (r : RoundStockView F) (answers : Q
     (batch : List Planned) : Type 0 where
   pub passes : AreOf q r.asks answers
   pub capacity : capacity_of q.requests ≡ crew.batch
+  pub answers_capacity : capacity_of q.results ≡ crew.batch
   pub put : ArePut s d batch (length batch) (queue_view_of r.asks)
   pub no_answers : queue_view_of answers ≡ first_view
   pub asks_splits : queue_splits_of r.asks + 1 ≡ all_shares

@@ -2,7 +2,8 @@
 use Rattle.std.specs.Prelude.{◌≡◌, ℕ, ◌<◌, ◌≤◌, Option, None, Some, List, length, map, IfSome, IfNone}
 use Rattle.std.specs.List.{All}
 use Rattle.vt_definitions.specs.Limits.{most_frames}
-use Rattle.vt_pages.specs.Pages.{pages_of}
+use Rattle.vt_pages.specs.Shape.{Shape}
+use Rattle.vt_pages.specs.Pages.{IsWithinLimits, pages_of}
 use Rattle.vt_residency.specs.Changes.{HasChanges}
 use Rattle.vt_residency.specs.Levels.{IsLevelTable, HasLevelLength}
 use Rattle.vt_residency.specs.Loads.{HasLoads}
@@ -30,11 +31,20 @@ abbrev pub Holding : (ResidencyView → Type 0) → Option ResidencyView → Typ
 Holding P None = ⊥
 Holding P (Some a) = P a
 
+-- the numbers of frames and of pinned pages that a cache may have
+pub record AreFrameCounts (s : Shape) (frames pinned : ℕ) : Type 0 where
+  pub few_frames : frames ≤ most_frames
+  pub some_pinned : 1 ≤ pinned
+  pub enough_frames : pinned ≤ frames
+  pub enough_pages : pinned ≤ pages_of s
+
 -- a cache was opened: 0; else it is as it was, and the shape was refused: 1; the numbers of frames or of pinned pages were: 2; memory was: 3
 pub record IsCacheOpened (old : Cache) (s : VtexShape) (frames pinned status : ℕ) (new : Cache) : Type 0 where
+  pub inside : status ≡ 0 → IsWithinLimits (shape_in s) × AreFrameCounts (shape_in s) frames pinned
   pub opened : status ≡ 0 → new.inner ≡ Some (first_residency (shape_in s) frames pinned)
   pub refused : status ≡ 1 → IsShapeRefused (shape_in s)
-  pub unframed : status ≡ 2 → frames ≤ most_frames → 1 ≤ pinned → pinned ≤ frames → pinned ≤ pages_of (shape_in s) → ⊥
+  pub unframed : status ≡ 2 → AreFrameCounts (shape_in s) frames pinned → ⊥
+  pub exhausted : status ≡ 3 → IsWithinLimits (shape_in s) × AreFrameCounts (shape_in s) frames pinned
   pub statuses : status < 4
   pub kept : (status ≡ 0 → ⊥) → new.inner ≡ old.inner
 
@@ -57,6 +67,7 @@ pub record IsPassedBy (old : Cache) (pixels : ℕ → ℕ) (Fits : ResidencyView
   pub planned : status ≡ 0 → Between (λ a b. IsPassed a pixels q b) old.inner new.inner
   pub unfit : status ≡ 2 → Holding (λ a. Fits a → ⊥) old.inner
   pub same : status ≡ 2 → new.inner ≡ old.inner
+  pub exhausted : status ≡ 3 → Holding Fits old.inner
   pub kept : status ≡ 3 → Between IsResidencyKept old.inner new.inner
   pub closed : status ≡ 4 → (old.inner ≡ None) × (new.inner ≡ None)
 
@@ -74,6 +85,7 @@ pub record IsSettledBy (old : Cache) (states : List ℕ) (status : ℕ) (new : C
   pub settled : status ≡ 0 → Between (λ a b. IsCommitted a states b) old.inner new.inner
   pub unfit : status ≡ 2 → Holding (λ a. length states ≡ length a.loads → ⊥) old.inner
   pub kept : status ≡ 2 → new.inner ≡ old.inner
+  pub exhausted : status ≡ 3 → Holding (λ a. length states ≡ length a.loads) old.inner
   pub gone : status ≡ 3 → new.inner ≡ None
   pub closed : status ≡ 4 → (old.inner ≡ None) × (new.inner ≡ None)
 

@@ -1,15 +1,15 @@
 -- What the calls from C do to a shared table, by the number that they answer.
-use Rattle.std.specs.Prelude.{◌≡◌, ◌≢◌, ℕ, ◌*◌, ◌<◌, ◌≤◌, ◌⊎◌, Option, None, Some, IsSome, true, List, length}
+use Rattle.std.specs.Prelude.{◌≡◌, ◌≢◌, ℕ, ◌*◌, ◌<◌, ◌≤◌, ◌⊎◌, Option, None, Some, IsSome, true, false, List, length}
 use Rattle.vt_definitions.specs.Limits.{most_frames, most_frame_texels, most_samplers, most_versions}
 use Rattle.vt_definitions.specs.Depths.{IsDepth}
 use Rattle.vt_pages.specs.Shape.{Shape}
-use Rattle.vt_pages.specs.Pages.{pages_of, root_of}
+use Rattle.vt_pages.specs.Pages.{IsWithinLimits, pages_of, root_of}
 use Rattle.vt_journal.specs.Changes.{newest, IsFree}
 use Rattle.vt_journal.specs.Lookups.{is_mapped}
 use Rattle.vt_grace.specs.Sizes.{sizes_of}
 use Rattle.vt_grace.specs.Sound.{IsSound}
-use Rattle.vt_grace.specs.WriterViews.{first_writer, is_out}
-use Rattle.vt_grace.specs.Giving.{after_return}
+use Rattle.vt_grace.specs.WriterViews.{first_writer, is_out, after_look}
+use Rattle.vt_grace.specs.Giving.{after_giving, after_return}
 use Rattle.vt_lookup.specs.Notes.{IsNotedIn}
 use Rattle.vt_texel_runs.specs.declared.points.Point.{Point}
 use Rattle.vt_shared.specs.Given.{HasTileLength, IsOfItsTile}
@@ -55,6 +55,7 @@ pub record IsTableOpened (old : TablePlace) (s : VtexShape) (depth frames reader
   pub opened : status ≡ 0 → Holding (IsNewOwner (shape_in s) depth frames readers) new.inner
   pub refused : status ≡ 1 → IsShapeRefused (shape_in s)
   pub unfit : status ≡ 2 → AreNumbers (shape_in s) depth frames readers → ⊥
+  pub exhausted : status ≡ 3 → IsWithinLimits (shape_in s) × AreNumbers (shape_in s) depth frames readers
   pub kept : (status ≡ 0 → ⊥) → new ≡ old
 
 -- a page was mapped, with the words of a tile, in the next version
@@ -152,33 +153,44 @@ pub record IsUnmapped (old : TablePlace) (page : ℕ) (before : VtexWaiting) (st
   pub awaited : status ≡ 6 → Between (λ a b. AwaitsBank a.streamer b.streamer after.reader after.version) old.inner new.inner
   pub kept : (status ≡ 6 → ⊥) → after ≡ before
 
--- if the root is mapped, the pass of each sampler is out
-abbrev pub CannotAdmit : OwnerView → Type 0
-CannotAdmit o = is_mapped (newest o.streamer.writer.journal) (root_of o.streamer.shape) ≡ true
-    → (k : ℕ) → k < o.words.sizes.samplers → is_out o.streamer.writer k ≡ true
+-- the root is mapped, and the pass of each sampler is out
+pub record HasNoSeat (o : OwnerView) : Type 0 where
+  pub rooted : is_mapped (newest o.streamer.writer.journal) (root_of o.streamer.shape) ≡ true
+  pub all_out : (k : ℕ) → k < o.words.sizes.samplers → is_out o.streamer.writer k ≡ true
 
--- a reader of the table was opened
-abbrev pub IsNewOwnersReader : Option OwnerView → Option SharedReaderView → Type 0
-IsNewOwnersReader None reader = ⊥
-IsNewOwnersReader (Some o) None = ⊥
-IsNewOwnersReader (Some o) (Some r) = (k : ℕ) × IsAdmittedBy o k r
+-- the root is mapped, and the pass of a sampler is not out
+pub record CanAdmit (o : OwnerView) : Type 0 where
+  pub rooted : is_mapped (newest o.streamer.writer.journal) (root_of o.streamer.shape) ≡ true
+  pub sampler : ℕ
+  pub inside : sampler < o.words.sizes.samplers
+  pub absent : is_out o.streamer.writer sampler ≡ false
 
--- nothing but which passes are out, and what is known of readers, differs
-pub record HasSameVersions (a b : OwnerView) : Type 0 where
-  pub rest : b ≡ record a { streamer = record a.streamer { writer = b.streamer.writer } }
-  pub journal : b.streamer.writer.journal ≡ a.streamer.writer.journal
-  pub contents : b.streamer.writer.contents ≡ a.streamer.writer.contents
+-- a reader was opened as a sampler whose pass was not out, and nothing else was changed
+pub record HasAdmitted (r : SharedReaderView) (a b : OwnerView) : Type 0 where
+  pub sampler : ℕ
+  pub inside : sampler < a.words.sizes.samplers
+  pub absent : is_out a.streamer.writer sampler ≡ false
+  pub reader : IsAdmittedBy a sampler r
+  pub given : b ≡ record a { streamer = record a.streamer { writer = after_giving (after_look a.streamer.writer sampler 0) sampler } }
 
--- a reader was opened: 0; all passes are out, the root is not mapped, or the reader is open: 2; memory was refused: 3; there is no table: 4
+-- with the reader there is
+abbrev pub Admitted : Option SharedReaderView → Option OwnerView → Option OwnerView → Type 0
+Admitted None old new = ⊥
+Admitted (Some r) old new = Between (HasAdmitted r) old new
+
+-- a reader was opened: 0; memory was refused: 3; there is no table: 4; the reader is open, or the root is not mapped yet: 8; all passes are
+-- out: 9
 pub record IsReaderOpened (old : TablePlace) (before : ReaderPlace) (status : ℕ) (new : TablePlace) (after : ReaderPlace) : Type 0 where
-  pub statuses : (status ≡ 0) ⊎ (status ≡ 2) ⊎ (status ≡ 3) ⊎ (status ≡ 4)
+  pub statuses : (status ≡ 0) ⊎ (status ≡ 3) ⊎ (status ≡ 4) ⊎ (status ≡ 8) ⊎ (status ≡ 9)
   pub inside : status ≡ 0 → before.inner ≡ None
   pub rooted : status ≡ 0 → Holding (λ o. is_mapped (newest o.streamer.writer.journal) (root_of o.streamer.shape) ≡ true) old.inner
-  pub unfit : status ≡ 2 → before.inner ≡ None → Holding CannotAdmit old.inner
-  pub admitted : status ≡ 0 → IsNewOwnersReader old.inner after.inner
-  pub versions : status ≡ 0 → Between HasSameVersions old.inner new.inner
+  pub early : status ≡ 8 → before.inner ≡ None
+      → Holding (λ o. is_mapped (newest o.streamer.writer.journal) (root_of o.streamer.shape) ≡ false) old.inner
+  pub full : status ≡ 9 → (before.inner ≡ None) × Holding HasNoSeat old.inner
+  pub admitted : status ≡ 0 → Admitted after.inner old.inner new.inner
+  pub refused : status ≡ 3 → (before.inner ≡ None) × Holding CanAdmit old.inner
   pub kept : (status ≡ 0 → ⊥) → (new ≡ old) × (after ≡ before)
-  pub closed : status ≡ 4 → old.inner ≡ None
+  pub closed : status ≡ 4 → (before.inner ≡ None) × (old.inner ≡ None)
 
 -- an open reader is one of an open table
 abbrev pub HaveOneTable : Option OwnerView → Option SharedReaderView → Type 0

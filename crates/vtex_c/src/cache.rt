@@ -1,13 +1,14 @@
 //! A place for a residency, which C keeps in memory of its own.
 
-ghost use Rattle.std.specs.Prelude.{◌≡◌, ◌&&◌, nat_le, map, None, slice_index};
-ghost use Rattle.vt_definitions.specs.Limits.{most_frames};
+ghost use Rattle.std.specs.Prelude.{◌≡◌, map, None, slice_index};
+ghost use Rattle.std.specs.Bool.{MatchBool};
 ghost use Rattle.vt_residency.specs.Tallies.{pixels_of, one_pixel};
-ghost use Rattle.vtex_c.specs.Caches.{IsCacheOpened, IsPassedBy, AreCounts, AreListed, ArePages, IsListed, AreStates, IsSettledBy, AreChanges, IsLookedUp, IsLevelListed, IsInfoAnswer, IsClosed};
+ghost use Rattle.vtex_c.specs.Caches.{AreFrameCounts, IsCacheOpened, IsPassedBy, AreCounts, AreListed, ArePages, IsListed, AreStates, IsSettledBy, AreChanges, IsLookedUp, IsLevelListed, IsInfoAnswer, IsClosed};
 
 use crate::shape::{VtexShape, geometry_of};
 use crate::{BAD_NUMBER, BAD_SHAPE, CLOSED, DONE, NO_MEMORY};
 use std::alloc::Global;
+use vt_pages::Geometry;
 use vt_residency::{
     Change, Info, Listed, Load, Place, Residency, are_pages, are_pages_or_none, put_changes,
     put_loads,
@@ -27,10 +28,11 @@ pub fn empty(alloc: Global) -> Cache
     Cache { alloc, inner: None }
 }
 
-// Whether a residency may have so many frames and so many pinned pages of so many pages.
-fn are_frames(frames: u32, pinned: u32, pages: u32) -> bool
-    ensures { result ≡ (nat_le frames most_frames && (nat_le 1 pinned && (nat_le pinned frames && nat_le pinned pages))) }
+// Whether a residency may have so many frames and so many pinned pages.
+fn are_frames(geometry: &Geometry, frames: u32, pinned: u32) -> bool
+    ensures { MatchBool result (AreFrameCounts geometry.now frames pinned) (AreFrameCounts geometry.now frames pinned → ⊥) }
 {
+    let pages = geometry.page_count();
     frames <= 65535 && (1 <= pinned && (pinned <= frames && pinned <= pages))
 }
 
@@ -41,7 +43,7 @@ pub fn open(cache: &mut Cache, shape: &VtexShape, frames: u32, pinned: u32) -> u
     let Some(geometry) = geometry_of(shape) else {
         return BAD_SHAPE;
     };
-    if !are_frames(frames, pinned, geometry.page_count()) {
+    if !are_frames(&geometry, frames, pinned) {
         return BAD_NUMBER;
     }
     match Residency::new(cache.alloc, &geometry, frames, pinned) {

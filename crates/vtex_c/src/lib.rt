@@ -46,6 +46,18 @@ const WAITING: u32 = 6;
 
 const NOT_HELD: u32 = 7;
 
+const BAD_ORDER: u32 = 8;
+
+const NO_SEAT: u32 = 9;
+
+/// The version of the library: 10000 times the major number, 100 times the minor one, and the patch.
+#[unsafe(no_mangle)]
+pub extern "C" fn vtex_version() -> u32
+    ensures { result ≡ 10000 }
+{
+    10000
+}
+
 /// How many pages the chain of a shape has.
 #[unsafe(no_mangle)]
 pub extern "C" fn vtex_page_count(shape: &VtexShape, pages: &mut u32) -> u32

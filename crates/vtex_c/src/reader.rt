@@ -12,15 +12,15 @@ use vt_shared::{Point, Reader, Span, are_points, is_run};
 /// A place for a reader.
 #[derive(Drop)]
 pub struct ReaderPlace {
-    pub alloc: Global,
     pub inner: Option<Reader>,
 }
 
 /// A place without a reader.
 pub fn empty(alloc: Global) -> ReaderPlace
-    ensures { result ≡ record { alloc = alloc; inner = None } }
+    ensures { result ≡ record { inner = None } }
 {
-    ReaderPlace { alloc, inner: None }
+    let _ = alloc;
+    ReaderPlace { inner: None }
 }
 
 /// Tells the number by which a table names the reader where it waits for it.

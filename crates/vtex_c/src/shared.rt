@@ -63,7 +63,7 @@ pub unsafe extern "C" fn vtex_table_init(at: *mut VtexTable, alloc: Global)
 #[unsafe(no_mangle)]
 pub unsafe extern "C" fn vtex_reader_init(at: *mut VtexReader, alloc: Global)
     requires* { sem 𝓛 (room_at reader_row at) }
-    ensures* { sem 𝓛 (lies_at reader_row full_share at (record { alloc = alloc; inner = None })) }
+    ensures* { sem 𝓛 (lies_at reader_row full_share at (record { inner = None })) }
 {
     std::ptr::write(at as *mut ReaderPlace, reader::empty(alloc));
 }

@@ -9,7 +9,7 @@ ghost use Rattle.vt_journal.specs.Changes.{newest};
 
 use crate::reader::ReaderPlace;
 use crate::shape::{VtexShape, geometry_of};
-use crate::{BAD_NUMBER, BAD_SHAPE, CLOSED, DONE, NO_MEMORY, WAITING};
+use crate::{BAD_NUMBER, BAD_ORDER, BAD_SHAPE, CLOSED, DONE, NO_MEMORY, NO_SEAT, WAITING};
 use std::alloc::Global;
 use vt_pages::Geometry;
 use vt_shared::{Owner, Waiting};
@@ -184,16 +184,16 @@ pub fn admit(place: &mut TablePlace, reader: &mut ReaderPlace) -> u32
     ensures { IsReaderOpened place.old reader.old result place.new reader.new }
 {
     if reader.inner.is_some() {
-        return BAD_NUMBER;
+        return BAD_ORDER;
     }
     match &mut place.inner {
         None => CLOSED,
         Some(owner) => {
             if !owner.is_rooted() {
-                return BAD_NUMBER;
+                return BAD_ORDER;
             }
             match owner.vacant() {
-                None => BAD_NUMBER,
+                None => NO_SEAT,
                 Some(sampler) => match owner.admit(sampler) {
                     Ok(admitted) => {
                         reader.inner = Some(admitted);

@@ -11,6 +11,7 @@ returns g c = λ answers s d crew pages given.
     record {
       passes = record { requests = asked.of.0; results = set_up.new.passes.results };
       capacity = set_up.new.room;
+      answers_capacity = set_up.new.answers_room;
       put = asked.asked s d pages set_up.places.sizes;
       no_answers = set_up.new.no_answers;
       asks_splits = ap (λ n. n + 1) asked.of.1 ∙ set_up.new.asks_splits;
