@@ -22,9 +22,9 @@ use std::thread::Threads;
 use vt_camera::Path;
 use vt_command_inputs::{Refusal, open_image, read_texture};
 use vt_command_words::Filtering;
-use vt_plain::wants_level_0;
 use vt_mip::halve_texture;
 use vt_outside::{File, Folder, OutsideError};
+use vt_plain::wants_level_0;
 use vt_ppm::{Image, StripReader};
 
 /// What is there of a texture: all of it, or its level 1 alone.

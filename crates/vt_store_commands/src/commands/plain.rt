@@ -26,10 +26,10 @@ use vt_command_words::Filtering;
 use vt_command_words::arguments::{Argument, text};
 use vt_command_words::filters::filter_of;
 use vt_command_words::numbers::side_of;
-use vt_plain::Levels;
 use vt_mip::Chain;
 use vt_outside::{Folder, OutsideError, Sink};
 use vt_pictures::is_picture_name;
+use vt_plain::Levels;
 use vt_ppm::begin_picture;
 
 /// The words of `plain`.
