@@ -8,6 +8,7 @@ The statuses and lines are those of docs/FORMATS.md. What an explanation names w
 by case, before the tool was run.
 """
 import os
+import shlex
 import struct
 import subprocess
 import sys
@@ -85,7 +86,7 @@ WORDS = [
 # Words, the status, the program's line, and what the explanation has to name.
 FILES = [
     (
-        "tile photo.vts t.vts",
+        "tile photo.vts photo.ppm",
         4,
         BAD + "photo.vts: bad magic",
         ["photo.vts is a tile store", "a PPM texture"],
@@ -243,6 +244,29 @@ PATHS = [
 ]
 
 
+# What succeeds, and looks as if it might not.
+DONE = [
+    "info photo.vts",
+    "trial 7",
+    "tile photo.ppm again.vts",
+    "tile photo.ppm again.vts --tile=32",
+    "walk --frames 64 photo.vts ok.path g",
+    "walk photo.vts ok.path g --frames 1",
+    "walk photo.vts ok.path g --frames 1 --settled",
+    "walk photo.vts ok.path g --frames 2048",
+    "replay photo.vts ok.path journal.txt g",
+    "walk photo.vts ok.path g --table words --rows dealt --filter bilinear",
+    "tile wide.ppm wide.vts",
+    "info deep.vts",
+    "walk deep.vts ok.path g",
+    "tile crlf.ppm crlf.vts",
+    "tile -- -photo.ppm again.vts",
+    "tile 'my pictures/H\u00f6he \u00fcber.ppm' 'my pictures/H\u00f6he.vts'",
+    "walk photo.vts ok.path 'my pictures/bild ' --journal 'my pictures/\u0436.txt'",
+    "tile photo.ppm /dev/null",
+]
+
+
 def say(good, what):
     global passed, failed
     passed, failed = passed + bool(good), failed + (not good)
@@ -306,6 +330,10 @@ def make_files(program):
     for name, data in contents.items():
         write(name, data)
     os.mkdir("folder.ppm")
+    texture("crlf.ppm", 4, 4, head=b"P6\r\n4 4\r\n255\r\n")
+    os.mkdir("my pictures")
+    texture("my pictures/H\u00f6he \u00fcber.ppm", 20, 10)
+    texture("-photo.ppm", 20, 10)
     texture("cut.ppm", 200, 150, body=bytes(1000))
     texture("big.ppm", 16385, 4, body=bytes(16385 * 12))
     texture("wide.ppm", 8193, 2, body=bytes(8193 * 6))
@@ -399,6 +427,15 @@ def main(words):
                 python=python,
                 preexec_fn=as_nobody,
             )
+            case(
+                copied,
+                "walk photo.vts ok.path closed/f --journal closed/j.txt".split(),
+                3,
+                FAULT,
+                ["the folder closed may not be written"],
+                python=python,
+                preexec_fn=as_nobody,
+            )
             os.chmod("photo.ppm", 0)
             case(
                 copied,
@@ -411,7 +448,7 @@ def main(words):
             )
             os.chmod("photo.ppm", 0o644)
         else:
-            print("skipped: files that may not be read or written, which root alone can try")
+            print("left out: files that may not be read or written, which root alone can try")
         with open("/dev/full", "wb") as full:
             ran = subprocess.run(
                 [sys.executable, TOOL, program, "info", "photo.vts"],
@@ -424,12 +461,14 @@ def main(words):
             "a full output: " + ran.stderr,
         )
         # What succeeds is left as it is, byte for byte.
-        for text in ("info photo.vts", "tile -- photo.ppm again.vts", "trial 7"):
-            own = subprocess.run(
-                [program, *text.split()], stdout=subprocess.PIPE, stderr=subprocess.PIPE
-            )
-            had = run(program, text.split())
+        for text in DONE:
+            words = shlex.split(text)
+            own = subprocess.run([program, *words], stdout=subprocess.PIPE, stderr=subprocess.PIPE)
+            had = run(program, words)
             say(had == (0, own.stdout, "") and own.returncode == 0, f"{text}: {had}")
+        with open("photo.ppm", "rb") as texture_file:
+            had = run(program, ["tile", "/dev/stdin", "in.vts"], stdin=texture_file)
+        say(had[0] == 0 and not had[2], f"a texture from the standard input: {had}")
         status, _, error = run(os.path.join(room, "none"), ["info"])
         say(
             status == 127 and "does not run" in error and "dist/install.sh" in error,
