@@ -1,11 +1,12 @@
-// An engine on the graphics card over the residency of vtex.h: OpenGL 3.3 core, in a window or without.
+// An engine on the graphics card over the residency of vtex.h: OpenGL 3.3 core, in a window or
+// without.
 //
-// The frames of the cache lie in one atlas texture, each a tile with a border of one texel, so that the
-// card's bilinear filter never reads another tile. A page table texture has an entry for each page: 0, or
-// its frame and 1. Where a page has none the shader goes to the coarser level. A feedback pass at a quarter
-// of the resolution writes which page each pixel wants; two pixel buffers in turn bring it to the processor
-// a picture later without a wait. Threads read the tiles. Where the frames are too few for what the
-// pictures want, a bias raises the level until they fit.
+// The frames of the cache lie in one atlas texture, each a tile with a border of one texel, so that
+// the card's bilinear filter never reads another tile. A page table texture has an entry for each
+// page: 0, or its frame and 1. Where a page has none the shader goes to the coarser level. A
+// feedback pass at a quarter of the resolution writes which page each pixel wants; two pixel
+// buffers in turn bring it to the processor a picture later without a wait. Threads read the tiles.
+// Where the frames are too few for what the pictures want, a bias raises the level until they fit.
 //
 // Without a window (EGL; Mesa's llvmpipe will do), for servers and tests:
 //     g++ -std=c++17 -O2 -Iinclude examples/engine/gpu.cpp libvtex_c.a -lEGL -lGL -pthread -o gpu
@@ -164,8 +165,8 @@ struct Store {
     Store &operator=(const Store &) = delete;
     ~Store() { close(file); }
 
-    // Reads a block of texels that lies in one tile, from (x, y) of the level on, and puts its rows into
-    // `to`, `stride` bytes apart. Reads all from its first to its last texel in one call.
+    // Reads a block of texels that lies in one tile, from (x, y) of the level on, and puts its rows
+    // into `to`, `stride` bytes apart. Reads all from its first to its last texel in one call.
     void read_block(uint32_t level, uint32_t x, uint32_t y, uint32_t columns, uint32_t rows,
                     uint8_t *to, size_t stride, std::vector<uint8_t> &bytes) const {
         uint32_t page = 0;
@@ -183,9 +184,10 @@ struct Store {
         }
     }
 
-    // Reads a page with its border of one texel: a square of tile + 2 texels a side, of the page and its
-    // up to eight neighbours in the level. The level's first texels are behind its last ones, as the
-    // ground repeats. What lies beyond the border of a page at the level's edge is left.
+    // Reads a page with its border of one texel: a square of tile + 2 texels a side, of the page
+    // and its up to eight neighbours in the level. The level's first texels are behind its last
+    // ones, as the ground repeats. What lies beyond the border of a page at the level's edge is
+    // left.
     void read_bordered(uint32_t page, std::vector<uint8_t> &square) const {
         struct Stretch { uint32_t to, from, count; };
         auto stretches = [&](uint32_t index, uint32_t side, Stretch (&made)[3]) {
@@ -308,8 +310,8 @@ int page_of(int level, ivec2 texel) { // of level 0
 }
 )";
 
-// The place in the found level is cut to 1/256 texel, the least that cards weigh by. A quarter of that is
-// added where the card filters: so one that cuts and one that rounds have the same weights.
+// The place in the found level is cut to 1/256 texel, the least that cards weigh by. A quarter of
+// that is added where the card filters: so one that cuts and one that rounds have the same weights.
 const char *const DRAW = R"(
 uniform usampler2D table;             // an entry for each page: 0, or its frame and 1
 uniform sampler2D atlas;
@@ -509,11 +511,13 @@ class Screen {
 
 // ---- the level bias
 
-// Raises the level where the pages that a round of the feedback's jitter wants are more than the frames,
-// by a quarter at a time, and lowers it by an eighth where they would fill less than half of them. A
-// quarter takes about three tenths of the pages away, so the one does not call for the other.
+// Raises the level by a quarter where the pages that a round of the feedback's jitter wants, but
+// for the pinned ones, are more than the other frames, and lowers it so where they are less than a
+// fifth of those. A level has four times the pages of the next one, so what was lowered fits, and
+// neither calls for the other.
 class Bias {
   public:
+    // For so many pages and frames beside the pinned ones, which are the last by index.
     Bias(uint32_t pages, uint32_t frames, uint32_t levels)
         : seen_(pages, 0), frames_(frames), most_(double(levels)) {}
     double level() const { return level_; }
@@ -523,13 +527,13 @@ class Bias {
             return;
         }
         for (size_t i = 0; i < count; i++) {
-            if (list[i] == VTEX_NO_PAGE || seen_[list[i]] == round_) continue;
+            if (list[i] >= seen_.size() || seen_[list[i]] == round_) continue; // none, or pinned
             seen_[list[i]] = round_;
             wanted_++;
         }
         pictures_++;
         if (wanted_ > frames_ && level_ < most_) change(0.25);
-        else if (pictures_ == 16) change(wanted_ < frames_ / 2 && level_ > 0 ? -0.125 : 0);
+        else if (pictures_ == 16) change(wanted_ < frames_ / 5 && level_ > 0 ? -0.25 : 0);
     }
 
   private:
@@ -559,7 +563,7 @@ class Engine {
         need(vtex_pinned_count(&store.head.shape, 2, &pinned_), "pinned pages");
         pinned_ = std::min(pinned_, options.frames);
         need(vtex_cache_open(cache_.get(), &store.head.shape, options.frames, pinned_), "cache");
-        bias_ = std::make_unique<Bias>(store.pages, options.frames - pinned_,
+        bias_ = std::make_unique<Bias>(store.pages - pinned_, options.frames - pinned_,
                                        uint32_t(store.levels.size()));
         make_textures();
         make_targets();
@@ -589,8 +593,8 @@ class Engine {
     }
     GLuint target() const { return targets_[0]; }
 
-    // Writes the last picture as PREFIX0000.ppm, and what its pixels were told as PREFIX0000.told: four
-    // numbers a pixel, as the card has them. Rows go from the top. Prints a line.
+    // Writes the last picture as PREFIX0000.ppm, and what its pixels were told as PREFIX0000.told:
+    // four numbers a pixel, as the card has them. Rows go from the top. Prints a line.
     void write(bool with_told) {
         const size_t width = size_t(options_.width), height = size_t(options_.height);
         const size_t depth = store_.head.depth;
@@ -760,7 +764,8 @@ class Engine {
         upload(came);
     }
 
-    // Puts the changes into the textures in their order, and the rows of the page table that changed.
+    // Puts the changes into the textures in their order, and the rows of the page table that
+    // changed.
     void upload(const std::vector<std::shared_ptr<Read>> &came) {
         const auto start = Clock::now();
         std::vector<bool> is_changed(rows_, false);
@@ -821,7 +826,8 @@ class Engine {
         glBindBuffer(GL_PIXEL_PACK_BUFFER, 0);
     }
 
-    // Takes the feedback of the picture before straight from its buffer, and asks for what is planned.
+    // Takes the feedback of the picture before straight from its buffer, and asks for what is
+    // planned.
     void plan() {
         glBindBuffer(GL_PIXEL_PACK_BUFFER, buffers_[(pictures_ + 1) % 2]);
         const auto *list = static_cast<const uint32_t *>(glMapBufferRange(
