@@ -32,7 +32,7 @@ PACKAGES = "Debian: g++ libegl-dev libgl-dev libgl1-mesa-dri"
 NO_PAGE = 0xFFFFFFFF
 LINE = re.compile(r"picture (\d+) ground (\d+) coarser (\d+) bias ([\d.]+) loads (\d+)")
 
-# Width, height, depth and tile of a store; the options of a flight; what its last picture has to be.
+# Width, height, depth and tile of a store; the options of a flight; what its last picture is.
 # "settled": each pixel has the wanted level, without a bias. "biased": so too, by a bias above 0.
 FLIGHTS = [
     (300, 200, 1, 16, ["--frames", "256"], "settled"),
@@ -124,7 +124,7 @@ class Store:
         return tuple(data[at + 2 * c] << 8 | data[at + 2 * c + 1] for c in range(3))
 
     def blend(self, level, x, y):
-        """The blend of four texels at a place in 1/256 texel, times 65536. Texel centres are at 128."""
+        """The blend of four texels at a place in 1/256 texel, times 65536; centres are at 128."""
         width, height, _, _ = self.levels[level]
         left, top = (x - 128) >> 8, (y - 128) >> 8
         e, f = (x - 128) & 255, (y - 128) & 255

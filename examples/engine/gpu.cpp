@@ -623,8 +623,8 @@ class Engine {
             ground += told[i + 2] != VTEX_NO_PAGE;
             coarser += told[i + 2] != told[i + 3];
         }
-        std::printf("picture %d ground %zu coarser %zu bias %.3f loads %zu\n", pictures_ - 1, ground,
-                    coarser, drawn_bias_, reads_.size());
+        std::printf("picture %d ground %zu coarser %zu bias %.3f loads %zu\n", pictures_ - 1,
+                    ground, coarser, drawn_bias_, reads_.size());
     }
 
     void print_times() const {
@@ -663,11 +663,12 @@ class Engine {
         glPixelStorei(GL_UNPACK_ALIGNMENT, 1);
         glPixelStorei(GL_PACK_ALIGNMENT, 1);
         sample_ = store_.head.depth == 1 ? GL_UNSIGNED_BYTE : GL_UNSIGNED_SHORT;
-        atlas_ = texture_of(store_.head.depth == 1 ? GL_RGB8 : GL_RGB16, GL_RGB, sample_, side, side,
-                            GL_LINEAR);
+        atlas_ = texture_of(store_.head.depth == 1 ? GL_RGB8 : GL_RGB16, GL_RGB, sample_, side,
+                            side, GL_LINEAR);
         rows_ = (store_.pages + ROW - 1) / ROW;
         entries_.assign(rows_ * ROW, 0);
-        table_ = texture_of(GL_R16UI, GL_RED_INTEGER, GL_UNSIGNED_SHORT, ROW, int(rows_), GL_NEAREST);
+        table_ = texture_of(GL_R16UI, GL_RED_INTEGER, GL_UNSIGNED_SHORT, ROW, int(rows_),
+                            GL_NEAREST);
     }
 
     void make_targets() {
