@@ -14,6 +14,7 @@ import subprocess
 import sys
 import tempfile
 import zlib
+from concurrent.futures import ThreadPoolExecutor
 
 import artefacts
 
@@ -362,23 +363,22 @@ def run(program, words, python=sys.executable, **more):
     return ran.returncode, ran.stdout, ran.stderr.decode("utf-8", "replace")
 
 
-def case(program, words, status, line, named, **more):
+def outcome(program, words, status, line, named, **more):
+    """Returns whether a refusal is as it has to be, and what is wrong with it."""
     had, out, error = run(program, words, **more)
     lines = error.splitlines()
-    told = lines[-1] if lines else ""
+    last = lines[-1] if lines else ""
     good = (
-        had == status
-        and lines[:-1] == [line]
-        and told.startswith("explain: ")
-        and all(it in told for it in named)
+        (had, out, lines[:-1]) == (status, b"", [line])
+        and last.startswith("explain: ")
+        and all(it in last for it in named)
     )
-    say(
-        good,
-        (
-            f"{' '.join(map(repr, words))}: status {had}, {error.strip()}; wanted {status}, {line},"
-            f" {named}"
-        ),
-    )
+    said = f"status {had}, {out} {error.strip()}"
+    return good, f"{' '.join(map(repr, words))}: {said}; wanted {status}, {line}, {named}"
+
+
+def case(*words, **more):
+    say(*outcome(*words, **more))
 
 
 def as_nobody():
@@ -396,20 +396,22 @@ def main(words):
         os.chdir(room)
         os.chmod(room, 0o755)
         make_files(program)
-        for text, named in WORDS:
-            case(program, text.split(), 2, USAGE, named)
-        case(program, ["tile", "photo.ppm", "caf\udce9.vts"], 2, USAGE, ["UTF-8", "rename"])
+        # These write nothing, so several may run at once.
+        jobs = [(program, text.split(), 2, USAGE, named) for text, named in WORDS]
+        jobs.append(
+            (program, ["tile", "photo.ppm", "caf\udce9.vts"], 2, USAGE, ["UTF-8", "rename"])
+        )
+        for number, (text, flaw, named) in enumerate(PATHS):
+            name = f"{number}.path"
+            write(name, text)
+            jobs.append(
+                (program, ["walk", "photo.vts", name, "p"], 4, f"{BAD}{name}: {flaw}", named)
+            )
+        with ThreadPoolExecutor(3) as pool:
+            for good, what in pool.map(lambda job: outcome(*job), jobs):
+                say(good, what)
         for text, status, line, named in FILES:
             case(program, text.split(), status, line, named)
-        for number, (text, flaw, named) in enumerate(PATHS):
-            write(f"{number}.path", text)
-            case(
-                program,
-                ["walk", "photo.vts", f"{number}.path", "p", "--journal", "pj.txt"],
-                4,
-                f"{BAD}{number}.path: {flaw}",
-                named,
-            )
         os.mkdir("closed")
         os.chmod("closed", 0o555)
         python = "/usr/bin/python3"
