@@ -208,7 +208,7 @@ class Visits:
         self.store = Store(data)
 
     def open(self, view=HERE, script="", options=""):
-        words = "#map=%s,%s,%s" % view
+        words = "#map=%s,%s,%s&filter=nearest" % view
         asked_of(self.server)
         url = "%s?store=stores/a.vts%s%s" % (self.server.base, options, words)
         page = self.there.open("about:blank", WIDE, HIGH, keeps=True, script=script).go(url)
