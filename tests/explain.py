@@ -117,6 +117,8 @@ FILES = [
         ["photo.vts is a tile store", "a PPM texture"],
     ),
     ("tile nosuch.ppm t.vts", 3, FAULT, ["there is no file nosuch.ppm", "a PPM texture"]),
+    # photo.png, which is there too, is no PPM texture.
+    ("tile photo.pnm t.vts", 3, FAULT, ["no file photo.pnm", "did you mean photo.ppm"]),
     ("tile phot.ppm t.vts", 3, FAULT, ["there is no file phot.ppm", "did you mean photo.ppm"]),
     ("walk nosuch.vts ok.path f", 3, FAULT, ["there is no file nosuch.vts", "a tile store"]),
     ("walk photo.vts nosuch.path f", 3, FAULT, ["there is no file nosuch.path", "a camera path"]),
