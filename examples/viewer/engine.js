@@ -7,8 +7,8 @@
 //
 // Events: `move` (the view changed), `look` (anything of the look changed, also the view), `draw` (a picture was drawn), `sharp` (it is as sharp as it
 // gets), `problem` (detail: a Failed that is tried again, or null once it has passed), `error` (detail: the error that ended the showing).
-import { load, NO_PAGE } from './vtex.js';
-import { Trouble } from './errors.js';
+import { load, NO_PAGE, VtexError } from './vtex.js';
+import { kindOf, sentenceOf, Trouble } from './errors.js';
 import { LocalFile, tried } from './source.js';
 import { Link } from './link.js';
 import { mostOf } from './runs.js';
@@ -57,7 +57,8 @@ function sizesOf(store, gl, options) {
 }
 
 export class Engine extends EventTarget {
-  /** Opens a store in a canvas, and shows it. Rejects with a Trouble, a Failed or a VtexError, and then leaves nothing behind.
+  /** Opens a store in a canvas, and shows it. Rejects with a Trouble or a Failed, whose message is a sentence, and then leaves nothing
+   *  behind.
    *
    *  `source`: a WebFile or a LocalFile. Options: `frames` and `pinned` (levels) of the cache, `parallel` requests of at most `run` tiles, `view`, `filter`
    *  and other parts of the look, or `look`, a function of the usual look and the store that returns one; `heard`, called with each failure that is tried
@@ -68,7 +69,7 @@ export class Engine extends EventTarget {
       await engine.begin(options);
     } catch (error) {
       engine.destroy();
-      throw error;
+      throw error instanceof VtexError ? new Trouble(sentenceOf(error), kindOf(error)) : error;
     }
     return engine;
   }

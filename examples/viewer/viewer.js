@@ -2,7 +2,6 @@
 import { Engine } from './engine.js';
 import { Failed, Trouble } from './errors.js';
 import { addressOf, kindOf, LocalFile, sentenceOf, WebFile } from './source.js';
-import { VtexError } from './vtex.js';
 import { lookOf, optionsOf, wordsOfLook } from './address.js';
 import { flightsOf, readPath } from './path.js';
 import { notice } from './notices.js';
@@ -79,7 +78,7 @@ async function open(sourceOf) {
     passing('');
     if (!source || source instanceof LocalFile) choose();
     explain(error, source);
-    if (!(error instanceof Trouble || error instanceof Failed || error instanceof VtexError)) throw error;
+    if (!(error instanceof Trouble || error instanceof Failed)) throw error;
     return null;
   }
 }
