@@ -276,6 +276,18 @@ def flaw_of_texels(words):
     return None
 
 
+def near_file(name, kind):
+    """Returns the file of this kind in the same folder whose name is most alike, or None."""
+    folder = os.path.dirname(name)
+    try:
+        names = os.listdir(folder or ".")
+    except OSError:
+        return None
+    alike = difflib.get_close_matches(os.path.basename(name), names, 9)
+    paths = (os.path.join(folder, it) for it in alike)
+    return next((it for it in paths if kind_of(it) == kind), None)
+
+
 def flaw_of_reading(words):
     """Returns why a file that is read could not be opened."""
     for word in [
@@ -287,14 +299,9 @@ def flaw_of_reading(words):
         if name == "-" and not os.path.exists(name):
             return "- is taken as a file's name; for the standard input write /dev/stdin"
         if not os.path.exists(name):
-            there = os.path.dirname(name) or "."
-            near = (
-                os.path.isdir(there)
-                and os.access(there, os.R_OK)
-                and difflib.get_close_matches(os.path.basename(name), os.listdir(there), 1)
-            )
+            near = near_file(name, READ[word])
             return f"there is no file {name}, which was to be {READ[word]}" + (
-                f"; did you mean {os.path.join(os.path.dirname(name), near[0])}?" if near else ""
+                f"; did you mean {near}?" if near else ""
             )
         if os.path.isdir(name):
             return f"{name} is a folder, and {READ[word]} is wanted there"
@@ -533,7 +540,8 @@ def explain(words, status, line):
 
 def main(words):
     if not words or words[0] in ("-h", "--help"):
-        print(__doc__.strip(), file=sys.stderr)
+        name = os.path.basename(sys.argv[0])
+        print(__doc__.strip().replace("explain.py", name), file=sys.stderr)
         return 2
     try:
         ran = subprocess.run(words, stderr=subprocess.PIPE)

@@ -24,8 +24,11 @@ Options:
 Example: path.py 320x200 0,0,256,0 48 1024,512,128,45 > flight.path
 """
 import math
+import os
 import sys
 
+# As it is called: path.py, or vtex-path where it is installed.
+NAME = os.path.basename(sys.argv[0])
 # The bounds of docs/FORMATS.md, in its units: 1/256 pixel for places and heights.
 MOST_SIDE, MOST_FOCAL, MOST_PICTURES, UNIT, ONE = 2048, 4096, 9999, 256, 16384
 LEAST_PLACE, MOST_PLACE, MOST_HEIGHT = -(2**31), 2**31, 2**24
@@ -229,7 +232,7 @@ def fly_around(path, word, count, size, focal):
         if row > size[1]:
             print(
                 (
-                    "path.py: note: the place itself lies below the picture; it is in it from a"
+                    f"{NAME}: note: the place itself lies below the picture; it is in it from a"
                     f" RADIUS of {math.ceil(path.key[2] / UNIT * focal / size[1])} on"
                 ),
                 file=sys.stderr,
@@ -317,12 +320,12 @@ def path_of(words):
 
 def main(words):
     if not words or words[0] in ("--help", "-h"):
-        print(__doc__.strip(), file=sys.stdout if words else sys.stderr)
+        print(__doc__.strip().replace("path.py", NAME), file=sys.stdout if words else sys.stderr)
         return 0 if words else 2
     try:
         text, name = path_of(words)
     except Refusal as refusal:
-        print(f"path.py: {refusal}", file=sys.stderr)
+        print(f"{NAME}: {refusal}", file=sys.stderr)
         return 2
     try:
         if name is None:
@@ -333,7 +336,7 @@ def main(words):
                 file.write(text)
     except OSError as error:
         print(
-            f"path.py: {name or 'the output'} cannot be written: {error.strerror}", file=sys.stderr
+            f"{NAME}: {name or 'the output'} cannot be written: {error.strerror}", file=sys.stderr
         )
         return 3
     return 0

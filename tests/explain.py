@@ -8,11 +8,13 @@ The statuses and lines are those of docs/FORMATS.md. What an explanation names w
 by case, before the tool was run.
 """
 import os
+import shlex
 import struct
 import subprocess
 import sys
 import tempfile
 import zlib
+from concurrent.futures import ThreadPoolExecutor
 
 import artefacts
 
@@ -85,7 +87,7 @@ WORDS = [
 # Words, the status, the program's line, and what the explanation has to name.
 FILES = [
     (
-        "tile photo.vts t.vts",
+        "tile photo.vts photo.ppm",
         4,
         BAD + "photo.vts: bad magic",
         ["photo.vts is a tile store", "a PPM texture"],
@@ -115,6 +117,8 @@ FILES = [
         ["photo.vts is a tile store", "a PPM texture"],
     ),
     ("tile nosuch.ppm t.vts", 3, FAULT, ["there is no file nosuch.ppm", "a PPM texture"]),
+    # photo.png, which is there too, is no PPM texture.
+    ("tile photo.pnm t.vts", 3, FAULT, ["no file photo.pnm", "did you mean photo.ppm"]),
     ("tile phot.ppm t.vts", 3, FAULT, ["there is no file phot.ppm", "did you mean photo.ppm"]),
     ("walk nosuch.vts ok.path f", 3, FAULT, ["there is no file nosuch.vts", "a tile store"]),
     ("walk photo.vts nosuch.path f", 3, FAULT, ["there is no file nosuch.path", "a camera path"]),
@@ -243,6 +247,29 @@ PATHS = [
 ]
 
 
+# What succeeds, and looks as if it might not.
+DONE = [
+    "info photo.vts",
+    "trial 7",
+    "tile photo.ppm again.vts",
+    "tile photo.ppm again.vts --tile=32",
+    "walk --frames 64 photo.vts ok.path g",
+    "walk photo.vts ok.path g --frames 1",
+    "walk photo.vts ok.path g --frames 1 --settled",
+    "walk photo.vts ok.path g --frames 2048",
+    "replay photo.vts ok.path journal.txt g",
+    "walk photo.vts ok.path g --table words --rows dealt --filter bilinear",
+    "tile wide.ppm wide.vts",
+    "info deep.vts",
+    "walk deep.vts ok.path g",
+    "tile crlf.ppm crlf.vts",
+    "tile -- -photo.ppm again.vts",
+    "tile 'my pictures/H\u00f6he \u00fcber.ppm' 'my pictures/H\u00f6he.vts'",
+    "walk photo.vts ok.path 'my pictures/bild ' --journal 'my pictures/\u0436.txt'",
+    "tile photo.ppm /dev/null",
+]
+
+
 def say(good, what):
     global passed, failed
     passed, failed = passed + bool(good), failed + (not good)
@@ -306,6 +333,10 @@ def make_files(program):
     for name, data in contents.items():
         write(name, data)
     os.mkdir("folder.ppm")
+    texture("crlf.ppm", 4, 4, head=b"P6\r\n4 4\r\n255\r\n")
+    os.mkdir("my pictures")
+    texture("my pictures/H\u00f6he \u00fcber.ppm", 20, 10)
+    texture("-photo.ppm", 20, 10)
     texture("cut.ppm", 200, 150, body=bytes(1000))
     texture("big.ppm", 16385, 4, body=bytes(16385 * 12))
     texture("wide.ppm", 8193, 2, body=bytes(8193 * 6))
@@ -334,23 +365,22 @@ def run(program, words, python=sys.executable, **more):
     return ran.returncode, ran.stdout, ran.stderr.decode("utf-8", "replace")
 
 
-def case(program, words, status, line, named, **more):
+def outcome(program, words, status, line, named, **more):
+    """Returns whether a refusal is as it has to be, and what is wrong with it."""
     had, out, error = run(program, words, **more)
     lines = error.splitlines()
-    told = lines[-1] if lines else ""
+    last = lines[-1] if lines else ""
     good = (
-        had == status
-        and lines[:-1] == [line]
-        and told.startswith("explain: ")
-        and all(it in told for it in named)
+        (had, out, lines[:-1]) == (status, b"", [line])
+        and last.startswith("explain: ")
+        and all(it in last for it in named)
     )
-    say(
-        good,
-        (
-            f"{' '.join(map(repr, words))}: status {had}, {error.strip()}; wanted {status}, {line},"
-            f" {named}"
-        ),
-    )
+    said = f"status {had}, {out} {error.strip()}"
+    return good, f"{' '.join(map(repr, words))}: {said}; wanted {status}, {line}, {named}"
+
+
+def case(*words, **more):
+    say(*outcome(*words, **more))
 
 
 def as_nobody():
@@ -368,20 +398,22 @@ def main(words):
         os.chdir(room)
         os.chmod(room, 0o755)
         make_files(program)
-        for text, named in WORDS:
-            case(program, text.split(), 2, USAGE, named)
-        case(program, ["tile", "photo.ppm", "caf\udce9.vts"], 2, USAGE, ["UTF-8", "rename"])
+        # These write nothing, so several may run at once.
+        jobs = [(program, text.split(), 2, USAGE, named) for text, named in WORDS]
+        jobs.append(
+            (program, ["tile", "photo.ppm", "caf\udce9.vts"], 2, USAGE, ["UTF-8", "rename"])
+        )
+        for number, (text, flaw, named) in enumerate(PATHS):
+            name = f"{number}.path"
+            write(name, text)
+            jobs.append(
+                (program, ["walk", "photo.vts", name, "p"], 4, f"{BAD}{name}: {flaw}", named)
+            )
+        with ThreadPoolExecutor(3) as pool:
+            for good, what in pool.map(lambda job: outcome(*job), jobs):
+                say(good, what)
         for text, status, line, named in FILES:
             case(program, text.split(), status, line, named)
-        for number, (text, flaw, named) in enumerate(PATHS):
-            write(f"{number}.path", text)
-            case(
-                program,
-                ["walk", "photo.vts", f"{number}.path", "p", "--journal", "pj.txt"],
-                4,
-                f"{BAD}{number}.path: {flaw}",
-                named,
-            )
         os.mkdir("closed")
         os.chmod("closed", 0o555)
         python = "/usr/bin/python3"
@@ -393,6 +425,15 @@ def main(words):
             case(
                 copied,
                 ["tile", "photo.ppm", "closed/t.vts"],
+                3,
+                FAULT,
+                ["the folder closed may not be written"],
+                python=python,
+                preexec_fn=as_nobody,
+            )
+            case(
+                copied,
+                "walk photo.vts ok.path closed/f --journal closed/j.txt".split(),
                 3,
                 FAULT,
                 ["the folder closed may not be written"],
@@ -411,7 +452,7 @@ def main(words):
             )
             os.chmod("photo.ppm", 0o644)
         else:
-            print("skipped: files that may not be read or written, which root alone can try")
+            print("left out: files that may not be read or written, which root alone can try")
         with open("/dev/full", "wb") as full:
             ran = subprocess.run(
                 [sys.executable, TOOL, program, "info", "photo.vts"],
@@ -424,12 +465,14 @@ def main(words):
             "a full output: " + ran.stderr,
         )
         # What succeeds is left as it is, byte for byte.
-        for text in ("info photo.vts", "tile -- photo.ppm again.vts", "trial 7"):
-            own = subprocess.run(
-                [program, *text.split()], stdout=subprocess.PIPE, stderr=subprocess.PIPE
-            )
-            had = run(program, text.split())
+        for text in DONE:
+            words = shlex.split(text)
+            own = subprocess.run([program, *words], stdout=subprocess.PIPE, stderr=subprocess.PIPE)
+            had = run(program, words)
             say(had == (0, own.stdout, "") and own.returncode == 0, f"{text}: {had}")
+        with open("photo.ppm", "rb") as texture_file:
+            had = run(program, ["tile", "/dev/stdin", "in.vts"], stdin=texture_file)
+        say(had[0] == 0 and not had[2], f"a texture from the standard input: {had}")
         status, _, error = run(os.path.join(room, "none"), ["info"])
         say(
             status == 127 and "does not run" in error and "dist/install.sh" in error,

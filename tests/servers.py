@@ -208,7 +208,7 @@ class Visits:
         self.store = Store(data)
 
     def open(self, view=HERE, script="", options=""):
-        words = "#map=%s,%s,%s" % view
+        words = "#map=%s,%s,%s&filter=nearest" % view
         asked_of(self.server)
         url = "%s?store=stores/a.vts%s%s" % (self.server.base, options, words)
         page = self.there.open("about:blank", WIDE, HIGH, keeps=True, script=script).go(url)
@@ -235,6 +235,7 @@ class Visits:
 
     def asked_right(self, page, due, most, what):
         """The head and the tiles of some pages were asked for, each once, by no more requests than some."""
+        told = page.ask("ready.then((viewer) => viewer.session.link.bytes)")
         asked = asked_of(self.server)
         title = "%s, %s: " % (self.name, what)
         check(
@@ -246,7 +247,6 @@ class Visits:
         )
         check(len(asked) <= most, title + "%d requests, at most %d are due" % (len(asked), most))
         bytes_due = len(due) * self.store.tile_bytes
-        told = page.ask("viewer.session.link.bytes")
         check(told == bytes_due, title + "%d bytes, %d are due" % (told, bytes_due))
 
 

@@ -268,6 +268,29 @@ def try_figures(program):
         )
 
 
+def try_frames(name, store, text, filtering, program):
+    """The frames of each picture by stores.py. A settled walk draws with them, not with fewer."""
+    path, geometry = Path(text.encode(), filtering), store.geometry
+    files = [name + ".vts", name + ".path"]
+    status, out, error = run("frames", *files, "--filter", filtering)
+    rows, needed = rows_of(out), []
+    for picture in range(len(path.cameras)):
+        wants = path.wants(geometry, picture)
+        held = {above for page in wants for above in geometry.ancestors_of(page)} | {geometry.root}
+        needed.append((picture, len(wants), len(held)))
+    found = [tuple(int(row[it]) for it in ("picture", "wanted", "frames")) for row in rows]
+    say(status == 0 and found == needed, f"{name}, {filtering}: {found} and {needed}")
+    most = max(it[2] for it in needed)
+    say(error.endswith(f"needs --frames {most}\n"), f"{name}, {filtering}: {error}")
+    for frames, wanted in ((most, 0), (most - 1, 5)) if program else ():
+        words = [program, "walk", *files, "f", "--settled", "--filter", filtering]
+        ran = subprocess.run(
+            [*words, "--frames", str(frames)], stdout=subprocess.PIPE, stderr=subprocess.PIPE
+        )
+        what = f"{name}, {filtering}: {frames} frames: {ran.returncode} {ran.stderr}"
+        say(ran.returncode == wanted, what)
+
+
 def try_misses(name, program):
     words = ["--program", program] if program else []
     status, out, error = run(
@@ -329,6 +352,7 @@ def main(words):
                 file.write(text)
             for filtering in (NEAREST, BILINEAR):
                 try_stream(name, Store(data), text, filtering)
+                try_frames(name, Store(data), text, filtering, program)
             for settings in (
                 Settings(frames=12, batch=3),
                 Settings(frames=60, settled=True),

@@ -4,6 +4,8 @@ what other policies would have done.
 
     study.py stream STORE PATH             the reference stream: a CSV line for each page that each
                                            picture wants
+    study.py frames STORE PATH             the frames that a settled walk needs: a CSV line for each
+                                           picture; the most go to the error output
     study.py passes STORE PATH JOURNAL     a CSV line for each pass of a walk; a summary goes to the
                                            error output
     study.py misses STORE PATH [--frames LIST] [--program VTEX] [--figure NAME]
@@ -29,6 +31,8 @@ import tempfile
 from collections import Counter, OrderedDict
 
 TOP = os.path.dirname(os.path.dirname(os.path.dirname(os.path.abspath(__file__))))
+# The most texels that the frames of a walk may have together.
+MOST_TEXELS = 8388608
 TILES = (2, 4, 8, 16, 32, 64, 128)
 FRAMES = "8,12,16,24,32,48,64,96,128,192,256"
 
@@ -73,6 +77,11 @@ class Store:
         ):
             raise Flaw(f"the store has no page {column} {row} of level {level}")
         return self.levels[level][4] + row * self.levels[level][2] + column
+
+    def parent(self, page):
+        """Returns the page one level up over the same ground. The root has none."""
+        level, column, row = self.name(page)
+        return self.index(level + 1, column // 2, row // 2)
 
     def name(self, page):
         """Returns the level, the column and the row of a page."""
@@ -136,6 +145,30 @@ class Path:
 def stream_of(store, path, is_bilinear):
     """Returns the wanted list of each picture."""
     return [path.wanted(store, picture, is_bilinear) for picture in range(len(path.cameras))]
+
+
+def frames_of(store, wanted):
+    """Returns how many frames a settled walk needs to draw a picture, with the root alone pinned:
+    one for each page above a wanted page, and for the page itself."""
+    held = {store.root}
+    for page, _ in wanted:
+        while page not in held:
+            held.add(page)
+            page = store.parent(page)
+    return len(held)
+
+
+def study_frames(store, path, is_bilinear):
+    """Prints a line for each picture, and the frames that all of them need."""
+    print("picture,wanted,frames")
+    most = 0
+    for picture, wanted in enumerate(stream_of(store, path, is_bilinear)):
+        frames = frames_of(store, wanted)
+        print(picture, len(wanted), frames, sep=",")
+        most = max(most, frames)
+    limit = MOST_TEXELS // store.tile**2
+    note = f"; at a tile side of {store.tile} there are at most {limit}" if most > limit else ""
+    print(f"a settled walk of this path needs --frames {most}{note}", file=sys.stderr)
 
 
 # -- the policies: each takes a stream of pages and a number of frames, and returns the reads
@@ -480,7 +513,7 @@ def main(words):
         formatter_class=argparse.RawDescriptionHelpFormatter,
         usage=argparse.SUPPRESS,
     )
-    parser.add_argument("what", choices=("stream", "passes", "misses"))
+    parser.add_argument("what", choices=("stream", "frames", "passes", "misses"))
     parser.add_argument("store")
     parser.add_argument("path")
     parser.add_argument("journal", nargs="?")
@@ -498,6 +531,8 @@ def main(words):
             for picture, wanted in enumerate(stream_of(store, path, words.filter == "bilinear")):
                 for page, pixels in wanted:
                     print(picture, page, *store.name(page), pixels, sep=",")
+        elif words.what == "frames":
+            study_frames(store, path, words.filter == "bilinear")
         elif words.what == "passes":
             study_passes(store, path, words.journal, words.filter == "bilinear")
         else:

@@ -20,7 +20,7 @@ class Look:
     def __init__(self, store, width, height, view, table=None, is_bilinear=False):
         g = store.geometry
         self.store, self.width, self.height, self.table, self.is_bilinear = store, width, height, table, is_bilinear
-        self.u, self.v, self.scale = view or (g.width / 2, g.height / 2, max(g.width / width, g.height / height))
+        self.u, self.v, self.scale = view or (g.width / 2, g.height / 2, min(max(g.width / width, g.height / height), min(g.width, g.height) / 2))
         self.level = min(max(math.floor(math.log2(self.scale) + 0.5), 0), len(g.levels) - 1)
 
     def place(self, x, y):
