@@ -1,13 +1,18 @@
 #!/usr/bin/env python3
 """Compares dist/ with the sources and with what the gate built.
 
-    python3 dist/check.py             checks the files of dist/. It fails where a file is not the one of SHA256SUMS, and where the sources are those
-                                      of SOURCES and a file differs from what was built here. Where dist/ is behind the sources, it names the
-                                      crates that changed, and passes.
-    python3 dist/check.py --release   the same, and fails where dist/ is behind or something was not built here
-    python3 dist/check.py --make [--log FILE ..]
-                                      makes the artefacts of dist/ from what the gate built. The verdict lines come from the logs of the gate and of
-                                      `rt lib`, or from PROVED where the sources have not changed since
+usage: check.py                     checks the files of dist/, in a second
+       check.py --modules           also builds the viewer's modules anew, and compares them
+       check.py --release           the same, and fails where dist/ is behind or was not compared
+       check.py --make [--log FILE ..]
+                                    makes the files of dist/ from what the gate built
+
+It fails where a file is not the one of SHA256SUMS, and where the sources are those of SOURCES and a
+file differs from what was built here, or the toolchain is another one than that of PROVED. Where
+dist/ is behind the sources, it names the crates that changed since, and passes.
+
+--make takes the verdict lines from the logs of `rt ci` and `rt lib`. Without a line in the logs it
+runs `rt check` in that crate, which takes some minutes.
 
 Needs git and Python 3.9. The toolchain is asked for its version where it is installed.
 """
@@ -24,23 +29,32 @@ TOP = os.path.dirname(DIST)
 
 
 class Artefact:
-    """A file that is handed out: its path, what the gate builds it as (or nothing), and what it is made of."""
+    """A file that is handed out: its path, what the gate builds it as, and what it is made of."""
 
     def __init__(self, path, built, crate, others=()):
         self.path, self.built, self.crate, self.others = path, built, crate, others
+        # As SHA256SUMS has it, whose sums are checked in dist/.
+        self.name = os.path.relpath(f"{TOP}/{path}", DIST)
 
     def sources(self):
         """Returns the paths of the sources, as `git ls-tree` takes them."""
-        parts = [f"crates/{it}/{part}" for it in crates_of(self.crate) for part in ("src", "specs", "proofs")]
+        parts = [
+            f"crates/{it}/{part}"
+            for it in crates_of(self.crate)
+            for part in ("src", "specs", "proofs")
+        ]
         return ["HANDLES", "crates.txt", *self.others, *parts]
 
 
+VIEWER = ("examples/viewer/build.py", "examples/viewer/heap.c")
 ARTEFACTS = [
     Artefact("dist/vtex", "crates/vtex/out/vtex", "vtex"),
     Artefact("dist/libvtex_c.a", "crates/vtex_c/out/libvtex_c.a", "vtex_c", ("dist/heap.c",)),
-    Artefact("examples/viewer/vtex.wasm", None, "vtex_c", ("examples/viewer/build.py",)),
-    Artefact("examples/viewer/vtex32.wasm", None, "vtex_c", ("examples/viewer/build.py",)),
+    Artefact("examples/viewer/vtex.wasm", None, "vtex_c", VIEWER),
+    Artefact("examples/viewer/vtex32.wasm", None, "vtex_c", VIEWER),
 ]
+# What a verdict says besides of how it came about, as `incremental=`, is the same for each check.
+VERDICT = re.compile(r"(logic=proved functions=.*?)(?: incremental=\S*)?$")
 MADE = ("SHA256SUMS", "SOURCES", "PROVED")
 
 
@@ -97,15 +111,26 @@ def kit():
 def sums_of_sources(paths):
     """Returns git's sum of each file and folder as it stands in the work tree, by its path."""
     with tempfile.TemporaryDirectory() as room:
-        # An index and a store of objects of its own: what is not committed counts, and the repository stays as it is.
+        # An index and a store of objects of its own: what is not committed counts, and the
+        # repository stays as it is.
         objects = run("git", "rev-parse", "--path-format=absolute", "--git-path", "objects").strip()
         os.mkdir(f"{room}/objects")
-        surroundings = dict(os.environ, GIT_INDEX_FILE=f"{room}/index", GIT_OBJECT_DIRECTORY=f"{room}/objects",
-                            GIT_ALTERNATE_OBJECT_DIRECTORIES=objects)
+        surroundings = dict(
+            os.environ,
+            GIT_INDEX_FILE=f"{room}/index",
+            GIT_OBJECT_DIRECTORY=f"{room}/objects",
+            GIT_ALTERNATE_OBJECT_DIRECTORIES=objects,
+        )
         there = [path for path in paths if os.path.exists(f"{TOP}/{path}")]
 
         def git(*words):
-            done = subprocess.run(["git", "-C", TOP, *words], env=surroundings, stdout=subprocess.PIPE, stderr=subprocess.PIPE, text=True)
+            done = subprocess.run(
+                ["git", "-C", TOP, *words],
+                env=surroundings,
+                stdout=subprocess.PIPE,
+                stderr=subprocess.PIPE,
+                text=True,
+            )
             if done.returncode != 0:
                 raise Flaw(f"git {words[0]}: {done.stderr.strip()}")
             return done.stdout
@@ -137,13 +162,33 @@ def read_sums(name):
 
 
 def with_heap(library, to):
-    """Writes the library that the gate built with heap.c in it. The toolchain's own clang compiles it, so the bytes are the same everywhere."""
+    """Writes the library that the gate built, with heap.c in it.
+
+    The toolchain's own clang compiles it, so the bytes are the same everywhere.
+    """
     tools = f"{kit()}/toolchain/bin"
     with tempfile.TemporaryDirectory() as room:
         shutil.copyfile(f"{DIST}/heap.c", f"{room}/heap.c")
         shutil.copyfile(library, f"{room}/libvtex_c.a")
-        run(f"{tools}/clang", "--no-default-config", "--target=x86_64-unknown-linux-gnu", "-march=x86-64", "-std=c11", "-O2", "-fPIC",
-            "-ffreestanding", "-nostdinc", "-Wall", "-Wextra", "-Werror", "-c", "heap.c", "-o", "vtex_heap.o", cwd=room)
+        run(
+            f"{tools}/clang",
+            "--no-default-config",
+            "--target=x86_64-unknown-linux-gnu",
+            "-march=x86-64",
+            "-std=c11",
+            "-O2",
+            "-fPIC",
+            "-ffreestanding",
+            "-nostdinc",
+            "-Wall",
+            "-Wextra",
+            "-Werror",
+            "-c",
+            "heap.c",
+            "-o",
+            "vtex_heap.o",
+            cwd=room,
+        )
         run(f"{tools}/llvm-ar", "rcsD", "libvtex_c.a", "vtex_heap.o", cwd=room)
         shutil.copyfile(f"{room}/libvtex_c.a", to)
 
@@ -163,21 +208,33 @@ def as_built(artefact):
 
 
 def verdicts(logs):
-    """Returns the verdict line of the program and of the library, out of the logs of the gate and of `rt lib`."""
+    """Returns the verdict line of the program and of the library that the logs have."""
     found = {}
     for name in logs:
         with open(name, encoding="utf-8", errors="replace") as file:
-            about = last = None
+            about = None
             for line in file.read().splitlines():
                 if line.startswith("== "):
                     about = line.split()[1]
-                for one in re.findall(r"logic=proved .*", line):
-                    last = one.split(" incremental=")[0]
-                    if about in ("vtex", "vtex_c"):
-                        found[about] = last
-                if line.startswith(("rt: vtex proved", "rt: vtex_c proved")) and last:
-                    found[line.split()[1]] = last
+                elif verdict := VERDICT.search(line):
+                    found[about] = verdict.group(1)
     return found
+
+
+def proved_now(crate):
+    """Proves a crate, and returns its verdict line. Takes some minutes."""
+    print(f"dist: the logs have no verdict line of {crate}, so it is proved again", flush=True)
+    found = VERDICT.findall(run("rt", "check", cwd=f"{TOP}/crates/{crate}"))
+    if not found:
+        raise Flaw(f"`rt check` in crates/{crate} printed no verdict line")
+    return found[-1]
+
+
+def make_modules():
+    """Makes the viewer's WebAssembly modules, where their sources are not those of SOURCES."""
+    if shutil.which("wasm-opt") is None:
+        raise Flaw("wasm-opt is not installed (Debian: binaryen), so vtex32.wasm cannot be made")
+    run(sys.executable, "examples/viewer/build.py")
 
 
 def make(logs):
@@ -187,21 +244,16 @@ def make(logs):
             raise Flaw(f"{it.built} is not there: run `rt ci`, then `rt lib` in crates/vtex_c")
     line = toolchain()
     if line is None:
-        raise Flaw("rt is not there: what is proved can be made only with the toolchain")
-    found, before = verdicts(logs), read_lines("PROVED")
-    same = read_sums("SOURCES") == all_sources()
-    for name in ("vtex", "vtex_c"):
-        old = [it.split(": ", 1)[1] for it in before if it.startswith(name + ": ")]
-        if name not in found and same and old:
-            found[name] = old[0]
-        if name not in found:
-            raise Flaw(f"no verdict line of {name} in {' '.join(logs) or 'no log'}: give the logs of `rt ci` and `rt lib` by --log")
+        raise Flaw("rt is not installed: a release is made with the toolchain alone")
+    found = verdicts(logs)
+    proved = {name: found.get(name) or proved_now(name) for name in ("vtex", "vtex_c")}
+    make_modules()
     shutil.copyfile(f"{TOP}/crates/vtex/out/vtex", f"{DIST}/vtex")
     os.chmod(f"{DIST}/vtex", 0o755)
     with_heap(f"{TOP}/crates/vtex_c/out/libvtex_c.a", f"{DIST}/libvtex_c.a")
-    write("SHA256SUMS", [f"{sum_of(f'{TOP}/{it.path}')}  {os.path.relpath(f'{TOP}/{it.path}', DIST)}" for it in ARTEFACTS])
+    write("SHA256SUMS", [f"{sum_of(f'{TOP}/{it.path}')}  {it.name}" for it in ARTEFACTS])
     write("SOURCES", [f"{sum}  {path}" for path, sum in sorted(all_sources().items())])
-    write("PROVED", [line, *[f"{name}: {found[name]}" for name in ("vtex", "vtex_c")]])
+    write("PROVED", [line, *[f"{name}: {verdict}" for name, verdict in proved.items()]])
     print(f"dist: made {version()}")
 
 
@@ -245,70 +297,86 @@ def numbers():
     return wrong
 
 
-def check(is_release):
-    """Checks the artefacts of dist/. Returns the exit status."""
-    sums = read_sums("SHA256SUMS")
-    if not sums and not any(os.path.exists(f"{DIST}/{name}") for name in ("vtex", "libvtex_c.a", *MADE)):
-        print("dist: no release has been made")
-        return 1 if is_release else 0
+def files_amiss(sums):
+    """Returns what is wrong with the files as they stand, each as a sentence."""
     wrong = []
     for it in ARTEFACTS:
-        name = os.path.normpath(os.path.relpath(f"{TOP}/{it.path}", DIST))
         if not os.path.isfile(f"{TOP}/{it.path}"):
             wrong.append(f"{it.path} is missing")
-        elif name not in sums:
+        elif it.name not in sums:
             wrong.append(f"SHA256SUMS has no line for {it.path}")
-        elif sums[name] != sum_of(f"{TOP}/{it.path}"):
+        elif sums[it.name] != sum_of(f"{TOP}/{it.path}"):
             wrong.append(f"{it.path} is not the file of SHA256SUMS")
-    names = {os.path.normpath(os.path.relpath(f"{TOP}/{it.path}", DIST)) for it in ARTEFACTS}
-    wrong += [f"SHA256SUMS names {name}, which is not handed out" for name in sorted(set(sums) - names)]
+    foreign = sorted(set(sums) - {it.name for it in ARTEFACTS})
+    wrong += [f"SHA256SUMS names {name}, which is not handed out" for name in foreign]
     proved = read_lines("PROVED")
     for name in ("toolchain", "vtex", "vtex_c"):
         if not any(line.startswith(name + ": ") for line in proved):
             wrong.append(f"PROVED has no line for {name}")
+    return wrong
+
+
+def modules_amiss():
+    """Builds the viewer's modules anew. Returns what is wrong with them, as a list of sentences."""
+    words = [sys.executable, f"{TOP}/examples/viewer/build.py", "--check"]
+    ran = subprocess.run(words, stdout=subprocess.PIPE, stderr=subprocess.STDOUT, text=True)
+    last = (ran.stdout.strip().splitlines() or ["build.py --check printed nothing"])[-1]
+    return [] if ran.returncode == 0 else [f"examples/viewer: {last}"]
+
+
+def check(is_release, has_modules):
+    """Checks the artefacts of dist/. Returns the exit status."""
+    sums = read_sums("SHA256SUMS")
+    if not any(os.path.exists(f"{DIST}/{name}") for name in ("vtex", "libvtex_c.a", *MADE)):
+        print("dist: no release has been made")
+        return 1 if is_release else 0
+    wrong = files_amiss(sums)
     then, now = read_sums("SOURCES"), all_sources()
     changed = sorted(path for path in {*then, *now} if then.get(path) != now.get(path))
     line, compared = toolchain(), 0
-    other = line is not None and line not in proved
-    for it in ARTEFACTS:
-        if other or set(changed) & {*it.sources()} or any(gone not in now for gone in changed):
-            continue
+    is_other = line is not None and line not in read_lines("PROVED")
+    # The files that stand as SOURCES has them; where a source is gone, none does.
+    of_now = [it for it in ARTEFACTS if not set(changed) & {*it.sources()} and {*changed} <= {*now}]
+    for it in [] if is_other else of_now:
         made = as_built(it)
-        if made is None:
-            if is_release and it.built:
-                wrong.append(f"{it.built} was not built here")
-        else:
+        if made is not None:
             compared += 1
-            if made != sums.get(os.path.normpath(os.path.relpath(f"{TOP}/{it.path}", DIST))):
-                wrong.append(f"{it.path} differs from {it.built}, which was built from the same sources")
+            if made != sums.get(it.name):
+                wrong.append(
+                    f"{it.path} differs from {it.built}, which was built from the same sources"
+                )
+        elif is_release and it.built:
+            wrong.append(f"{it.built} was not built here")
+    if has_modules and line and not is_other and any(it.built is None for it in of_now):
+        wrong += modules_amiss()
+        compared += 2
     if changed:
-        crates = sorted({path.split("/")[1] if path.startswith("crates/") else path for path in changed})
-        print(f"dist: behind the sources; changed since {version()}: {', '.join(crates)}")
+        crates = {path.split("/")[1] if path.startswith("crates/") else path for path in changed}
+        print(f"dist: behind the sources; changed since {version()}: {', '.join(sorted(crates))}")
         if is_release:
             wrong.append("dist is behind the sources")
-    if other and changed:
-        print(f"dist: made by another toolchain than the one installed here, {line.split(': ', 1)[1]}")
-    elif other:
-        # Another toolchain makes other bytes from the same sources, so PROVED no longer names what the gate runs.
-        wrong.append(f"PROVED does not name the toolchain that is installed here, {line.split(': ', 1)[1]}")
+    if is_other and changed:
+        print(f"dist: made by another toolchain than the one installed here, {line}")
+    elif is_other:
+        # Another toolchain makes other bytes from the same sources.
+        wrong.append(f"PROVED does not name the toolchain that is installed here, {line}")
     if is_release:
         wrong += numbers()
-        built = subprocess.run([sys.executable, f"{TOP}/examples/viewer/build.py", "--check"], stdout=subprocess.PIPE, stderr=subprocess.STDOUT, text=True)
-        if built.returncode != 0:
-            wrong.append(f"examples/viewer: {built.stdout.strip().splitlines()[-1] if built.stdout.strip() else 'build.py --check failed'}")
     for it in wrong:
         print(f"dist: {it}")
-    print(f"dist: {version()}, {len(ARTEFACTS)} files, {compared} compared with what was built here, {len(wrong)} wrong")
+    count = f"{len(ARTEFACTS)} files, {compared} compared with what was built here"
+    print(f"dist: {version()}, {count}, {len(wrong)} wrong")
     return 1 if wrong else 0
 
 
 def main(words):
-    if words == [] or words == ["--release"]:
-        return check(bool(words))
+    """Runs the command of these words. Returns the exit status."""
+    if words in ([], ["--modules"], ["--release"]):
+        return check(words == ["--release"], words != [])
     if words[:1] == ["--make"] and (len(words) == 1 or words[1] == "--log" and len(words) > 2):
         make(words[2:])
         return 0
-    print("usage: check.py [--release | --make [--log FILE ..]]", file=sys.stderr)
+    print(__doc__.split("\n\n")[1], file=sys.stderr)
     return 2
 
 

@@ -1,7 +1,9 @@
-/* The heap of libvtex_c.a: the three calls that the proved code makes for memory, by the C library's malloc, realloc and free.
+/* The heap of libvtex_c.a: the three calls that the proved code makes for memory, by malloc,
+ * realloc and free.
  *
- * This file is not proved. It is compiled into the library without any header, so that the same compiler makes the same bytes on every
- * machine. Each call is weak: a program that defines all three itself uses its own heap (see docs/ENGINES.md).
+ * This file is not proved. It is compiled into the library without any header, so that the same
+ * compiler makes the same bytes on every machine. Each call is weak: a program that defines all
+ * three itself uses its own heap (see dist/README.md).
  */
 typedef __SIZE_TYPE__ size_t;
 
@@ -9,7 +11,8 @@ void *malloc(size_t size);
 void *realloc(void *memory, size_t size);
 void free(void *memory);
 
-/* What an allocation gives: whether memory was had, and where it is. A refusal gives an address all the same, which nobody reads. */
+/* What an allocation returns: whether there was memory, and where it is. The address of a refusal
+ * is not null either; nobody reads it. */
 struct memory {
     _Bool is_given;
     void *at;
@@ -19,7 +22,8 @@ struct memory {
 
 static _Alignas(16) char nothing[1];
 
-/* What malloc aligns to. The library asks for no more; if it did, it would be refused memory, and never given a wrong address. */
+/* What malloc aligns to. The library asks for no more; if it did, it would be refused memory, and
+ * would never have a wrong address. */
 enum { ALIGNED = 16 };
 
 static struct memory given(void *at) {
@@ -32,7 +36,8 @@ WEAK struct memory rattle_alloc(size_t size, size_t alignment) {
     return given(alignment <= ALIGNED ? malloc(size ? size : alignment) : 0);
 }
 
-/* Returns the memory `old`, of `old_size` bytes, with `size` bytes. Where it is refused, `old` stays as it was. */
+/* Returns the memory `old`, of `old_size` bytes, with `size` bytes. If it is refused, `old` stays
+ * as it was. */
 WEAK struct memory rattle_realloc(void *old, size_t old_size, size_t size, size_t alignment) {
     (void)old_size;
     return given(alignment <= ALIGNED ? realloc(old, size ? size : alignment) : 0);

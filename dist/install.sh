@@ -1,12 +1,15 @@
 #!/bin/sh
 # Installs vtex: sh dist/install.sh [PREFIX]
 #
-#   sh dist/install.sh                checks the files, runs the program once from where it stands, and installs nothing
-#   sh dist/install.sh PREFIX         the same, and copies program, library, header, man page and viewer below PREFIX, as ~/.local or /usr/local
+#   sh dist/install.sh           checks the files, runs the program once from where it stands, and
+#                                installs nothing
+#   sh dist/install.sh PREFIX    also copies program, library, header, man page and viewer below
+#                                PREFIX, as ~/.local or /usr/local
 #   sh dist/install.sh --uninstall PREFIX
-#                                     removes what it has put below PREFIX
+#                                removes what it has put below PREFIX
 #
-# Needs a POSIX shell and sha256sum. With a C compiler (CC, or cc) it also makes the shared library. DESTDIR is put before PREFIX, for packages.
+# Needs a POSIX shell and sha256sum. With a C compiler (CC, or cc) it also makes the shared library.
+# DESTDIR is put before PREFIX, for packages.
 set -eu
 
 fail() {
@@ -15,7 +18,7 @@ fail() {
 }
 
 usage() {
-    sed -n '2,9s/^# \{0,1\}//p' "$0" >&2
+    sed -n '2,12s/^# \{0,1\}//p' "$0" >&2
     exit 2
 }
 
@@ -28,7 +31,8 @@ uninstall() {
     [ -f "$list" ] || fail "nothing of vtex is below $1: $list is not there"
     while read -r name; do rm -f "$1/$name"; done <"$list"
     rm -f "$list"
-    for folder in share/vtex/viewer share/vtex lib/cmake/vtex lib/cmake lib/pkgconfig share/man/man1 share/man include bin lib share; do
+    for folder in share/vtex/viewer share/vtex share/man/man1 share/man share \
+        lib/cmake/vtex lib/cmake lib/pkgconfig lib include bin; do
         rmdir "$1/$folder" 2>/dev/null || :
     done
     echo "removed vtex from $1"
@@ -40,11 +44,13 @@ case ${1-} in
 esac
 [ $# -le 1 ] || usage
 
-# The machine: the program is for Linux on x86-64-v2 (processors since 2009) with glibc 2.34 or later.
+# The machine: the program is for Linux on x86-64-v2 (processors since 2009) with glibc 2.34 or
+# later.
 [ "$(uname -s)" = Linux ] || fail "the program is for Linux; this is $(uname -s)"
 [ "$(uname -m)" = x86_64 ] || fail "the program is for x86-64 processors; this is $(uname -m)"
 for flag in cx16 lahf_lm popcnt sse4_1 sse4_2 ssse3; do
-    grep -qw "$flag" "${VTEX_CPUINFO-/proc/cpuinfo}" || fail "the program needs an x86-64-v2 processor; this one has no $flag"
+    grep -qw "$flag" "${VTEX_CPUINFO-/proc/cpuinfo}" ||
+        fail "the program needs an x86-64-v2 processor; this one has no $flag"
 done
 libc=$(getconf GNU_LIBC_VERSION 2>/dev/null || :)
 case $libc in
@@ -52,10 +58,12 @@ case $libc in
 *) fail "the program needs glibc 2.34 or later; this system has another C library" ;;
 esac
 major=${libc#glibc } major=${major%%.*} minor=${libc#glibc *.} minor=${minor%%.*}
-[ "$major" -gt 2 ] || { [ "$major" -eq 2 ] && [ "$minor" -ge 34 ]; } || fail "the program needs glibc 2.34 or later; this system has $libc"
+[ "$major" -gt 2 ] || { [ "$major" -eq 2 ] && [ "$minor" -ge 34 ]; } ||
+    fail "the program needs glibc 2.34 or later; this system has $libc"
 
 # The files.
-[ -f "$here/SHA256SUMS" ] && [ -f "$here/vtex" ] || fail "no release is in $here: SHA256SUMS or vtex is missing"
+[ -f "$here/SHA256SUMS" ] && [ -f "$here/vtex" ] ||
+    fail "no release is in $here: SHA256SUMS or vtex is missing"
 if ! (cd "$here" && sha256sum -c SHA256SUMS >/dev/null 2>&1); then
     (cd "$here" && sha256sum -c SHA256SUMS 2>&1 | grep -v ': OK$' >&2) || :
     fail "a file is not the one that was released; get the release again"
@@ -77,7 +85,8 @@ if [ $# -eq 1 ]; then
     # Copies a file below PREFIX: its mode, where it is, its name there.
     put() {
         mkdir -p "$to/$(dirname "$3")"
-        cp "$2" "$to/$3.new" && chmod "$1" "$to/$3.new" && mv -f "$to/$3.new" "$to/$3" || fail "cannot write $to/$3"
+        cp "$2" "$to/$3.new" && chmod "$1" "$to/$3.new" && mv -f "$to/$3.new" "$to/$3" ||
+            fail "cannot write $to/$3"
         echo "$3" >>"$to/share/vtex/installed"
     }
 
@@ -89,6 +98,7 @@ if [ $# -eq 1 ]; then
     put 644 "$top/include/vtex.h" include/vtex.h
     put 644 "$top/docs/vtex.1" share/man/man1/vtex.1
     for name in "$top"/examples/viewer/*; do
+        case $name in */build.py | */heap.c) continue ;; esac # what the modules are made of
         [ ! -f "$name" ] || put 644 "$name" "share/vtex/viewer/$(basename "$name")"
     done
 
@@ -122,7 +132,8 @@ unset(_vtex_prefix)
 END
     cat >"$room/vtexConfigVersion.cmake" <<END
 set(PACKAGE_VERSION "$version")
-if(PACKAGE_FIND_VERSION VERSION_GREATER PACKAGE_VERSION OR NOT PACKAGE_FIND_VERSION_MAJOR EQUAL ${version%%.*})
+if(PACKAGE_FIND_VERSION VERSION_GREATER PACKAGE_VERSION
+    OR NOT PACKAGE_FIND_VERSION_MAJOR EQUAL ${version%%.*})
   set(PACKAGE_VERSION_COMPATIBLE FALSE)
 else()
   set(PACKAGE_VERSION_COMPATIBLE TRUE)
@@ -139,8 +150,10 @@ END
     shared=libvtex.so.${version%%.*}
     if command -v "$compiler" >/dev/null 2>&1; then
         echo '{ global: vtex_*; local: *; };' >"$room/exports"
-        "$compiler" -shared -o "$room/$shared" -Wl,-soname,"$shared" -Wl,--version-script,"$room/exports" \
-            -Wl,--whole-archive "$here/libvtex_c.a" -Wl,--no-whole-archive || fail "$compiler could not make the shared library"
+        "$compiler" -shared -o "$room/$shared" -Wl,-soname,"$shared" \
+            -Wl,--version-script,"$room/exports" \
+            -Wl,--whole-archive "$here/libvtex_c.a" -Wl,--no-whole-archive ||
+            fail "$compiler could not make the shared library"
         put 755 "$room/$shared" "lib/$shared"
         ln -sf "$shared" "$to/lib/libvtex.so"
         echo lib/libvtex.so >>"$to/share/vtex/installed"

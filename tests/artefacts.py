@@ -1,4 +1,4 @@
-"""Finds the program and the library that the tests run: those of dist/, or those that were built here where they are newer."""
+"""Finds the program and the library for the tests: those of dist/, or newer ones built here."""
 import os
 import subprocess
 
@@ -24,12 +24,19 @@ def library():
 
 
 def library_words(folder):
-    """Returns what a C compiler links for the library. The gate's library has no heap in it, so dist/heap.c is compiled into the folder for it."""
+    """Returns what a C compiler links for the library.
+
+    The gate's library has no heap in it, so dist/heap.c is compiled into the folder for it.
+    """
     path = library()
     if path is None:
-        raise SystemExit("there is no library: it is in dist/ with a release, and `rt lib` in crates/vtex_c builds it")
+        raise SystemExit(
+            "no library: a release has it in dist/, and `rt lib` in crates/vtex_c builds it"
+        )
     if path == RELEASED:
         return [path]
-    heap = os.path.join(folder, "heap.o")
-    subprocess.run(["gcc", "-std=c11", "-O2", "-fPIC", "-Wall", "-Wextra", "-Werror", "-c", os.path.join(TOP, "dist", "heap.c"), "-o", heap], check=True)
+    heap, source = os.path.join(folder, "heap.o"), os.path.join(TOP, "dist", "heap.c")
+    warnings = ["-Wall", "-Wextra", "-Werror"]
+    words = ["gcc", "-std=c11", "-O2", "-fPIC", *warnings, "-c", source, "-o", heap]
+    subprocess.run(words, check=True)
     return [path, heap]

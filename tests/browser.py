@@ -234,13 +234,15 @@ class Site:
 
     `asked` has for each request of a file under /stores/ its path, its first byte and the one after the last, or None for both where it was
     for the whole file. `amiss` is None, or a function of the number of the request, counted from 1, and of these three values, which gives
-    None for a right answer or else the status of a wrong one. `ranges` is false for a server that answers no ranges. `wait`: seconds that an
-    answer takes at least.
+    None for a right answer, or else the status of a wrong one, HANGS for no answer before the site ends, or BREAKS for one that breaks off
+    after half of its bytes. `ranges` is false for a server that answers no ranges. `wait`: seconds that an answer takes at least. `most`:
+    the most requests that were answered at a time. `headers`: what answers have beside their own.
     """
 
     def __init__(self, folder, page=serve.HERE):
-        self.folder = folder
+        self.folder, self.headers = folder, {}
         self.asked, self.amiss, self.ranges, self.wait, self.lock = [], None, True, 0, threading.Lock()
+        self.now, self.most, self.ended = 0, 0, threading.Event()
         kind = type("Noted", (Noted,), {"site": self, "folder": folder, "page": page})
         self.server = serve.Server(("127.0.0.1", 0), kind)
         self.base = "http://127.0.0.1:%d/" % self.server.server_address[1]
@@ -250,8 +252,25 @@ class Site:
         return self
 
     def __exit__(self, *_):
+        self.ended.set()
         self.server.shutdown()
         self.server.server_close()
+
+    @contextlib.contextmanager
+    def noting(self, path, span):
+        """Notes a request while it is answered; gives its number."""
+        with self.lock:
+            self.asked.append((path, *span))
+            number, self.now = len(self.asked), self.now + 1
+            self.most = max(self.most, self.now)
+        try:
+            yield number
+        finally:
+            with self.lock:
+                self.now -= 1
+
+
+HANGS, BREAKS = "hangs", "breaks"
 
 
 class Noted(serve.Handler):
@@ -261,15 +280,30 @@ class Noted(serve.Handler):
 
     def do_GET(self, has_body=True):
         name = self.name_of(self.path)
-        if self.path.startswith("/stores/") and name and os.path.isfile(name):
-            if not self.site.ranges:
-                del self.headers["Range"]
-            span = serve.span_of(self.headers.get("Range"), os.path.getsize(name)) or (None, None)
-            with self.site.lock:
-                self.site.asked.append((self.path, *span))
-                number = len(self.site.asked)
+        if not (self.path.startswith("/stores/") and name and os.path.isfile(name) and has_body):
+            return super().do_GET(has_body)
+        if not self.site.ranges:
+            del self.headers["Range"]
+        span = serve.span_of(self.headers.get("Range"), os.path.getsize(name)) or (None, None)
+        with self.site.noting(self.path, span) as number:
             time.sleep(self.site.wait)
-            status = self.site.amiss and self.site.amiss(number, self.path, *span)
-            if status:
-                return self.say(status, Content_Length=0)
-        return super().do_GET(has_body)
+            amiss = self.site.amiss and self.site.amiss(number, self.path, *span)
+            if amiss == HANGS:
+                self.close_connection = True
+                return self.site.ended.wait()
+            if amiss == BREAKS:
+                return self.break_off(name, span)
+            return self.say(amiss, Content_Length=0) if amiss else super().do_GET(has_body)
+
+    def break_off(self, name, span):
+        told, (start, end) = os.stat(name), span
+        self.say(206, Content_Range="bytes %d-%d/%d" % (start, end - 1, told.st_size), Content_Length=end - start, ETag=serve.tag_of(told))
+        with open(name, "rb") as file:
+            file.seek(start)
+            self.wfile.write(file.read((end - start) // 2))
+        self.close_connection = True
+
+    def end_headers(self):
+        for both in self.site.headers.items():
+            self.send_header(*both)
+        super().end_headers()

@@ -3,8 +3,14 @@
 // program's order that is refused. Files are read here; tiles are handed over only once they were asked for, as over a network.
 import { readFileSync, writeFileSync } from 'node:fs';
 import { createInterface } from 'node:readline';
+import { Flaw } from '../examples/viewer/errors.js';
+import { openStore, tileStart } from '../examples/viewer/geometry.js';
 import { readJournal, lastPasses } from '../examples/viewer/journal.js';
-import { Drawing, Flaw, openStore, pictureFile, pixelOf, readPath, sampleAt, Table, tileStart } from '../examples/viewer/replay.js';
+import { readPath } from '../examples/viewer/path.js';
+import { Drawing, pictureFile, pixelOf, sampleAt, Table } from '../examples/viewer/replay.js';
+import { start } from '../examples/viewer/vtex.js';
+
+const library = await start(readFileSync(new URL('../examples/viewer/vtex32.wasm', import.meta.url)));
 
 // The same with the input's name in the flaw.
 function reading(file, read) {
@@ -19,7 +25,7 @@ function reading(file, read) {
 function walkOf(names) {
   const bytes = readFileSync(names.store);
   const path = reading('path', () => readPath(readFileSync(names.path)));
-  const store = reading('store', () => openStore(bytes.subarray(0, 16), bytes.length));
+  const store = reading('store', () => openStore(library, bytes.subarray(0, 16), bytes.length));
   const journal = reading('journal', () => readJournal(readFileSync(names.journal), store, path.height, path.pictures));
   return { bytes, walk: { store, path, journal } };
 }

@@ -2,13 +2,15 @@
 """Compares the pictures that the player in examples/viewer draws from stores, paths and journals with those of the independent programs here and, where it
 is built, of the program; and opens the player in headless Chromium.
 
-usage: player.py [--program PROGRAM] [--cases N] [--seed N] [--shots FOLDER]
+usage: player.py [--node | --short] [--program PROGRAM] [--cases N] [--seed N] [--shots FOLDER]
 
 (crates/vtex/out/vtex, 400 cases of another seed each time, and no screenshot where they are not given; the screenshot wants the program)
 
 In node: worked paths, stores and journals with their flaws; random ones, of which most have parts of their grammar changed (hostile/mutations.py); and walks
 of the reference, live and settled, of both depths, with lost pages and with rows at any versions that a journal allows, each drawn by both filters. The
 pictures have to be those of journals.py and of client.py, byte for byte, and so do walks and replays of the program. In Chromium: player_page.py.
+
+`--node`: without Chromium. `--short`: 40 random cases, and in Chromium some of the checks, in half a minute. The numbers of cases are those without `--cases`.
 
 What needs node, Chromium or the program is skipped, and said to be, where they are not there. It prints a line for each check that failed or was skipped,
 and at last how many passed and failed. The status is 0 where none failed.
@@ -226,18 +228,23 @@ def try_program(check, node, program):
 def main():
     parser = argparse.ArgumentParser(usage=__doc__.split("\n")[3].removeprefix("usage: "))
     parser.add_argument("--program", default=os.path.join(top, "crates", "vtex", "out", "vtex"))
-    parser.add_argument("--cases", type=int, default=400)
+    parser.add_argument("--node", action="store_true")
+    parser.add_argument("--short", action="store_true")
+    parser.add_argument("--cases", type=int)
     parser.add_argument("--seed", type=int, default=random.randrange(10**9))
     parser.add_argument("--shots")
     options = parser.parse_args()
     shots = options.shots and os.path.abspath(options.shots)
+    if options.cases is None:
+        options.cases = 40 if options.short else 400
     check, program = Checks(), os.path.abspath(options.program)
     if not os.access(program, os.X_OK):
         program = check.skip("what compares with the program, which is not built: " + program)
     with tempfile.TemporaryDirectory(prefix="vtex-player-") as folder:
         os.chdir(folder)
         try_node(check, program, options, folder) if shutil.which("node") else check.skip("the player in node, which is not installed")
-        try_page(check, program, shots)
+        if not options.node:
+            try_page(check, program, shots, options.short)
         os.chdir(top)
     print("player: %d passed, %d failed" % (check.passed, check.failed))
     return 1 if check.failed else 0
@@ -255,7 +262,7 @@ def try_node(check, program, options, folder):
     node.close()
 
 
-def try_page(check, program, shots):
+def try_page(check, program, shots, is_short):
     try:
         import browser
     except ImportError as error:
@@ -264,7 +271,7 @@ def try_page(check, program, shots):
         return check.skip("the player in Chromium, which is not installed")
     import player_page
 
-    return player_page.try_page(check, make_walk, program, shots)
+    return player_page.try_page(check, make_walk, program, shots, is_short)
 
 
 if __name__ == "__main__":

@@ -316,7 +316,7 @@ def make_shots(check, browser, site, folder, program, shots):
     is_quiet(check, page, "screenshot")
 
 
-def try_page(check, make_walk, program, shots):
+def try_page(check, make_walk, program, shots, is_short=False):
     folder = os.path.abspath("walks")
     os.mkdir(folder)
     for name, walk in WALKS.items():
@@ -326,8 +326,11 @@ def try_page(check, make_walk, program, shots):
     walks = {name: Walked(folder, name) for name in WALKS}
     with Site(folder) as site, Browser() as browser:
         for name, walk in walks.items():
-            try_walk(check, browser, site, walk, name)
+            if not (is_short and name == "large"):
+                try_walk(check, browser, site, walk, name)
         try_hands(check, browser, site, walks["small"])
+        if is_short:
+            return try_requests(check, browser, site, walks["large"])
         try_hands(check, browser, site, walks["large"])
         try_requests(check, browser, site, walks["large"])
         try_files(check, browser, site, walks)

@@ -249,6 +249,9 @@ def try_store(check, number, width, height, tile, most, is_for_c):
     if is_for_c and check.tiler:
         subprocess.run([check.tiler, "s.ppm", "c.vts", str(tile)])
         check.say(contents("c.vts") == wanted, "store %d by the program in C" % number)
+        write("s.ppm", texture.replace(b"P6", b"P6\n# a comment, as vips writes one", 1))
+        subprocess.run([check.tiler, "s.ppm", "d.vts", str(tile)])
+        check.say(contents("d.vts") == wanted, "store %d by the program in C, with a comment" % number)
     if depth == 1:
         upgrade_of(check, "s.vts", "store %d" % number)
 

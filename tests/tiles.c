@@ -1,17 +1,46 @@
 // Writes the tile store of a texture by the rules of docs/FORMATS.md, level by level and sample by sample, apart from the program: for
-// textures that are too large for reference.py. The header is to be `P6`, three numbers with one white space byte before each, and one
-// behind.
+// textures that are too large for reference.py. It checks its input less than the program does: the number of pages is not limited.
 //
 // usage: tiles TEXTURE STORE TILE
+#include <ctype.h>
+#include <errno.h>
 #include <stdio.h>
 #include <stdlib.h>
+#include <string.h>
 
 typedef struct {
     long width, height;
     unsigned char *bytes;
 } Level;
 
+enum { MOST_SIDE = 16384, MOST_MAXIMUM = 65535 };
+
 static long depth, tile;
+
+static void end(const char *name, const char *flaw) {
+    fprintf(stderr, "tiles: %s: %s\n", name, flaw);
+    exit(1);
+}
+
+static int is_space(int byte) { return byte == ' ' || byte == '\t' || byte == '\n' || byte == '\r'; }
+
+// Reads a gap, which is white space and then white space and comments, and the number behind it, and leaves what follows.
+static long number_of(FILE *file, const char *name) {
+    int byte = fgetc(file);
+    if (!is_space(byte)) end(name, "the header is not P6 and three numbers with white space before each");
+    while (is_space(byte) || byte == '#') {
+        if (byte == '#') do byte = fgetc(file); while (byte != EOF && byte != '\n' && byte != '\r');
+        else byte = fgetc(file);
+    }
+    long number = 0, digits = 0;
+    for (; isdigit(byte); byte = fgetc(file)) {
+        if (++digits > 10) end(name, "a number of the header has more than 10 digits");
+        number = 10 * number + byte - '0';
+    }
+    if (!digits) end(name, "the header is not P6 and three numbers with white space before each");
+    ungetc(byte, file);
+    return number;
+}
 
 static unsigned char *place(const Level *level, long x, long y, long channel) {
     if (x >= level->width) x = level->width - 1;
@@ -28,7 +57,7 @@ static void put(unsigned char *at, long value) {
 
 static Level level_of(long width, long height) {
     Level level = {width, height, malloc(3 * depth * width * height)};
-    if (!level.bytes) exit(1);
+    if (!level.bytes) end("level", "out of memory");
     return level;
 }
 
@@ -46,17 +75,20 @@ static Level halve(const Level *fine) {
 
 static Level texture_of(const char *name) {
     FILE *file = fopen(name, "rb");
-    long width, height, most;
-    if (!file || fscanf(file, "P6 %ld %ld %ld", &width, &height, &most) != 3) exit(1);
-    fgetc(file);
+    if (!file) end(name, strerror(errno));
+    if (fgetc(file) != 'P' || fgetc(file) != '6') end(name, "it is no raw PPM texture, which begins with P6");
+    long width = number_of(file, name), height = number_of(file, name), most = number_of(file, name);
+    if (!is_space(fgetc(file))) end(name, "there is no white space behind the header");
+    if (width < 1 || width > MOST_SIDE || height < 1 || height > MOST_SIDE) end(name, "its sides are not from 1 to 16384");
+    if (most < 1 || most > MOST_MAXIMUM) end(name, "its maximum is not from 1 to 65535");
     depth = most < 256 ? 1 : 2;
     Level level = level_of(width, height);
     size_t length = 3 * depth * width * height;
-    if (fread(level.bytes, 1, length, file) != length) exit(1);
+    if (fread(level.bytes, 1, length, file) != length) end(name, "its raster is cut off");
     fclose(file);
     long top = depth == 1 ? 255 : 65535;
     for (unsigned char *at = level.bytes; at < level.bytes + length; at += depth) {
-        if (sample(at) > most) exit(1);
+        if (sample(at) > most) end(name, "it has a sample over its maximum");
         put(at, (sample(at) * top + most / 2) / most);
     }
     return level;
@@ -75,11 +107,14 @@ static void put_tiles(FILE *file, const Level *level) {
 }
 
 int main(int count, char **words) {
-    if (count != 4) return 2;
-    tile = atol(words[3]);
+    if (count == 4) tile = atol(words[3]);
+    if (tile < 2 || tile > 128 || tile & (tile - 1)) {
+        fprintf(stderr, "usage: tiles TEXTURE STORE TILE    (TILE is 2, 4, 8, 16, 32, 64 or 128)\n");
+        return 2;
+    }
     Level level = texture_of(words[1]);
     FILE *file = fopen(words[2], "wb");
-    if (!file) return 1;
+    if (!file) end(words[2], strerror(errno));
     fprintf(file, "VTS%ld", depth);
     put_number(file, level.width);
     put_number(file, level.height);
@@ -91,5 +126,6 @@ int main(int count, char **words) {
         level = coarse;
         put_tiles(file, &level);
     }
-    return fclose(file);
+    if (ferror(file) | fclose(file)) end(words[2], "it could not be written whole");
+    return 0;
 }

@@ -1,13 +1,15 @@
 #!/usr/bin/env python3
 """Tests the viewer of examples/viewer: its WebAssembly modules, and the page in headless Chromium.
 
-usage: viewer.py [--modules | --page] [--only TEST] [--shots FOLDER]
+usage: viewer.py [--node | --modules | --page] [--short] [--only TEST] [--shots FOLDER]
 
-`--modules`: the modules alone (modules.py); they want rt, `rt lib` in crates/vtex_c once, gcc and node. `--page`: the page alone; it wants Chromium. What is
-not installed is said to be left out. `--only`: one test of the page by its name. `--shots`: a folder for pictures of the page.
+`--node`: what needs node alone: vtex.js, and, with gcc and the library for C, both modules by 300 random runs beside it. `--modules`: this, and whether the
+modules are those of a fresh build, which wants rt and `rt lib` in crates/vtex_c once. `--page`: the page alone, in Chromium. `--short`: all but the fresh
+build, with fewer views, in one to two minutes. What is not installed is left out, and the output says so. `--only`: one test of the page by its name.
+`--shots`: a folder for pictures of the page.
 
 The page's pictures are compared with the texels of the store's file, which this script reads by itself; and the requests of the page, which the server
-notes, with the pages that the picture's pixels want.
+notes, with the pages that the picture's pixels want. The last line is `N passed, M failed`.
 """
 import argparse
 import os
@@ -22,11 +24,11 @@ sys.path[:0] = [os.path.join(TOP, "tests"), os.path.join(TOP, "tests", "viewer")
 import browser  # noqa: E402
 import modules  # noqa: E402
 import textures  # noqa: E402
-from looks import Look, differ, flight_differs, mapped_of, pages_asked, reaches  # noqa: E402
+from looks import Look, differ, flight_differs, mapped_of, pages_asked, reaches, shown  # noqa: E402
 from stores import Path, Store  # noqa: E402
 
 WIDE, HIGH = 320, 200
-passed, failed, left_out = 0, 0, []
+passed, failed, left_out, is_short = 0, 0, [], False
 
 
 def say(good, what):
@@ -52,24 +54,24 @@ def make_stores(folder):
 # ---- what is shown, and what is asked for
 
 
-def shown(page, look):
-    """The picture that the page draws, once it is sharp: rows from the top, three bytes a pixel."""
-    data, row = page.pixels("viewer.screen.pixels(viewer.look)"), 4 * look.width
-    rows = [data[at : at + row] for at in range(0, len(data), row)][::-1]
-    return [[bytes(row[4 * x : 4 * x + 3]) for x in range(look.width)] for row in rows]
-
-
 def sharp(page, seconds=90):
     return page.ask("ready.then((viewer) => viewer && viewer.sharp())", seconds)
+
+
+def exact(store, words):
+    """The words of a view that is drawn by the nearest texels and, of samples of two bytes, by their whole range."""
+    return (words + "&" if words else "#") + "filter=nearest" + "&range=0,65535" * (store.depth == 2)
 
 
 def views_of(store, number):
     """Some maps of a store: whole, and of texels and parts of texels, near its middle and its corners."""
     g, choose = store.geometry, random.Random(number)
+    most = max(1, 2 * min(max(g.width / WIDE, g.height / HIGH), min(g.width, g.height) / 2))  # the page shows no map that is smaller
     yield "", None
-    for scale in (1, 0.5, 2, 3, 0.078125, choose.randrange(8, 640) / 64):
+    scales = (1, 0.5, 2, 3, 0.078125, choose.randrange(8, 640) / 64)
+    for scale in scales[: 2 if is_short else None]:
         u, v = choose.choice([(g.width / 2, g.height / 2), (0, 0), (g.width, 0), (choose.randrange(g.width), choose.randrange(g.height))])
-        yield "#map=%s,%s,%s" % (u, v, scale), (u, v, scale)
+        yield "#map=%s,%s,%s" % (u, v, scale), (u, v, min(scale, most))
 
 
 def test_maps(site, there, stores):
@@ -79,6 +81,7 @@ def test_maps(site, there, stores):
             site.asked.clear()
             choice = random.Random(name + words)
             options = "&module=32" * choice.randrange(2) + "&pinned=1" * choice.randrange(2) + "&bare" * choice.randrange(2)
+            words = exact(store, words)
             page = there.open("%s?store=stores/%s.vts%s%s" % (site.base, name, options, words), WIDE, HIGH)
             what = name + options + words
             say(sharp(page), what + ": it becomes sharp")
@@ -96,8 +99,8 @@ def test_maps(site, there, stores):
 def test_blends(site, there, stores):
     """Bilinear maps are the blends of the store's texels, but for the rounding of the last bit."""
     for name in ("a", "wide", "small"):
-        for words, view in list(views_of(stores[name], 5))[1:5]:
-            page = there.open("%s?store=stores/%s.vts%s&filter=bilinear" % (site.base, name, words), WIDE, HIGH)
+        for words, view in list(views_of(stores[name], 5))[1 : 2 if is_short else 5]:
+            page = there.open("%s?store=stores/%s.vts%s" % (site.base, name, exact(stores[name], words).replace("nearest", "bilinear")), WIDE, HIGH)
             say(sharp(page), name + words + ": a blend becomes sharp")
             look = Look(stores[name], WIDE, HIGH, view, is_bilinear=True)
             say(differ(shown(page, look), look, most=1) == 0, name + words + ": a pixel is not the blend")
@@ -109,9 +112,9 @@ def test_flights(site, there, stores):
     """Flights are those of `vtex walk` but for pixels at the edge of a texel, since the page computes in floats; a path is played to its end."""
     text = b"size 320 200\nfocal 160\nat 0 0 10240 16384 0\nat 30000 60000 20480 -11585 11585\nto 12 60000 9000 30480 14000 6000\n"
     path = Path(text)
-    for picture in (0, 1, 13):
+    for picture in (1,) if is_short else (0, 1, 13):
         u, v, h, c, s = path.cameras[picture]
-        page = there.open(site.base + "?store=stores/a.vts&bare", WIDE, HIGH)
+        page = there.open(site.base + "?store=stores/a.vts&bare#filter=nearest", WIDE, HIGH)
         say(sharp(page), "before a flight")
         page.ask("viewer.move({ mode: 'fly', u: %d / 256, v: %d / 256, h: %d / 256, c: %d / 16384, s: %d / 16384, focal: 160 / 320 }, true)" % (u, v, h, c, s))
         say(page.ask("viewer.sharp()"), "a flight becomes sharp")
@@ -141,7 +144,7 @@ def test_faults(site, there, stores):
 
     site.amiss = lambda number, *_: 503 if number == 1 or number % 3 == 0 else None
     site.asked.clear()
-    page = opened("?store=stores/a.vts#map=350,250,1")
+    page = opened("?store=stores/a.vts#map=350,250,1&filter=nearest")
     say(sharp(page) and page.ask("viewer.session.link.failures") > 0, "one answer in three is a 503, and it becomes sharp")
     look = Look(stores["a"], WIDE, HIGH, (350, 250, 1))
     say(differ(shown(page, look), look) == 0 and said(page) == [], "its pixels are the store's texels")
@@ -186,7 +189,7 @@ def test_faults(site, there, stores):
 def test_few_frames(site, there, stores):
     """With too few frames the picture settles on the finest pages that are mapped."""
     for frames in (21, 40):
-        page = there.open(site.base + "?store=stores/a.vts&pinned=1&frames=%d#map=350,250,1" % frames, WIDE, HIGH)
+        page = there.open(site.base + "?store=stores/a.vts&pinned=1&frames=%d#map=350,250,1&filter=nearest" % frames, WIDE, HIGH)
         say(sharp(page), "%d frames settle" % frames)
         look = Look(stores["a"], WIDE, HIGH, (350, 250, 1), mapped_of(page))
         say(len(look.table) == frames, "all frames are used")
@@ -201,7 +204,7 @@ def test_link(site, there, stores):
     """On a slow link the first picture comes long before the sharp one, and a request that nothing wants any more is given up."""
     page = there.open("about:blank", WIDE, HIGH)
     page.link(2e6, 60)
-    page.go(site.base + "?store=stores/a.vts&pinned=2#map=100,100,1")
+    page.go(site.base + "?store=stores/a.vts&pinned=2#map=100,100,1&filter=nearest")
     page.until("window.viewer && viewer.times.first > 0")
     say(page.ask("viewer.isSharp") is False, "the first picture is coarse")
     page.until("viewer.session.link.flights.size >= 2 && viewer.session.tiles > 20")
@@ -215,6 +218,7 @@ def test_link(site, there, stores):
 
 def test_hand(site, there, stores):
     page = there.open(site.base + "?store=stores/a.vts", WIDE, HIGH)
+    page.call("Emulation.setEmulatedMedia", features=[{"name": "prefers-reduced-motion", "value": "reduce"}])
     say(sharp(page), "before the hand")
     view, key = (lambda: page.ask("viewer.look.view")), (lambda name: [page.call("Input.dispatchKeyEvent", type=kind, key=name) for kind in ("keyDown", "keyUp")])
     mouse = lambda kind, x, y, **more: page.call("Input.dispatchMouseEvent", type=kind, x=x, y=y, button="left", **more)
@@ -251,7 +255,7 @@ def test_hand(site, there, stores):
     key("f")
     say(page.ask("viewer.sharp()") and view()["scale"] == 2.5, "the key F fits")
     cells = "[...document.querySelectorAll('#levels canvas')].map((it) => { const all = it.getContext('2d').getImageData(0, 0, it.width, it.height).data; let n = 0; for (let i = 0; i < all.length; i += 4) n += all[i] !== 58; return n; })"
-    page.ask("document.getElementById('panel').hidden = false, viewer.showPanel()")
+    page.ask("document.getElementById('more').click()")
     say(sum(page.ask(cells)) == page.ask("viewer.session.frames - viewer.session.cache.info().free"), "the panel's levels have a spot for each mapped page")
     say(page.told == [], "the hand: " + " ".join(page.told))
     page.close()
@@ -259,7 +263,7 @@ def test_hand(site, there, stores):
 
 def test_local_file(site, there, stores):
     """A store of this computer, chosen in the page, is shown with no request."""
-    page = there.open(site.base, WIDE, HIGH)
+    page = there.open(site.base + exact(stores["wide"], ""), WIDE, HIGH)
     site.asked.clear()
     root = page.call("DOM.getDocument")["root"]["nodeId"]
     node = page.call("DOM.querySelector", nodeId=root, selector="#local")["nodeId"]
@@ -298,19 +302,21 @@ def test_page(shots, only):
 
 
 def main():
+    global is_short
     parser = argparse.ArgumentParser(description=__doc__, formatter_class=argparse.RawDescriptionHelpFormatter)
-    parser.add_argument("--modules", action="store_true")
-    parser.add_argument("--page", action="store_true")
+    for name in ("--node", "--modules", "--page", "--short"):
+        parser.add_argument(name, action="store_true")
     parser.add_argument("--shots")
     parser.add_argument("--only")
     words = parser.parse_args()
-    if not words.page:
-        absent = modules.missing()
-        if absent:
-            left_out.append("the modules, since %s is not installed" % absent)
-        else:
-            modules.check(say)
-    if not words.modules:
+    is_short = words.short
+    if not words.page and shutil.which("node") is None:
+        left_out.append("the modules in node, which is not installed (Debian: apt-get install nodejs)")
+    elif not words.page:
+        modules.check_node(say, left_out.append)
+    if not (words.page or words.node or words.short):
+        modules.check_build(say, left_out.append)
+    if not (words.modules or words.node):
         if browser.find() is None:
             left_out.append("the page, since Chromium is not installed (Debian: apt-get install chromium)")
         else:

@@ -1,7 +1,7 @@
 #!/usr/bin/env python3
 """Makes vtex.wasm and vtex32.wasm, the page cache for web pages, of the proved library crates/vtex_c.
 
-usage: build.py [--to FOLDER]
+usage: build.py [--to FOLDER | --check]
 
 1. `rt lib` proves crates/vtex_c, if that is not done yet, and hands its LLVM module for x86-64 to the toolchain's clang. It runs from a folder of
    links to the toolchain, in which clang is a script that keeps a copy of the module.
@@ -11,7 +11,10 @@ usage: build.py [--to FOLDER]
    but not those of the shared table, which is for many threads: a page has one.
 4. wasm-opt (of binaryen) makes vtex32.wasm of vtex.wasm, for browsers without 64-bit memories. It has the same calls. Without wasm-opt it is left out.
 
-FOLDER is the one of this script where it is left out.
+FOLDER is the one of this script where it is left out. `rt lib` proves what is not proved yet in this checkout: that takes from seconds to an hour.
+
+--check writes nothing, but compares the modules beside this script with those of a fresh build. The last line has the result. The status is 0 where they
+are the same, 1 where they differ, and 2 where rt or wasm-opt, and so a fresh build of one or both, is missing.
 """
 import argparse
 import os
@@ -71,6 +74,7 @@ def module_of(kit, room):
     with open(clang, "w") as file:
         file.write(KEEPER % (kept, os.path.join(kit, "toolchain", "bin", "clang")))
     os.chmod(clang, 0o755)
+    print("rt lib in crates/vtex_c, which first proves what is not proved yet", flush=True)
     told = run(os.path.join(copy, "bin", "rt"), "lib", "--jobs", "1", cwd=CRATE)
     proved = re.findall(r"(?m)^logic=proved .*", told)
     if not proved or not os.path.exists(kept):
@@ -140,13 +144,46 @@ def kit():
     return os.path.dirname(run("rt", "doc").strip())
 
 
+def check():
+    """Compares the modules beside this script with those of a fresh build, prints how they compare, and returns the status."""
+    if shutil.which("rt") is None:
+        print("build.py: not checked, since rt, the tool of the Rattle toolchain, is not installed")
+        return 2
+    with tempfile.TemporaryDirectory(prefix="vtex-wasm-") as room:
+        made = os.path.join(room, "made")
+        os.mkdir(made)
+        make(kit(), made, room)
+        fresh = sorted(os.listdir(made))
+        differing = [name for name in fresh if not is_same(os.path.join(made, name), os.path.join(HERE, name))]
+    if differing:
+        print("build.py: not those of a fresh build, so run build.py: %s" % ", ".join(differing))
+        return 1
+    if len(fresh) < 2:
+        print("build.py: vtex.wasm is that of a fresh build; vtex32.wasm is not checked, since wasm-opt is not installed (Debian: binaryen)")
+        return 2
+    print("build.py: %s are those of a fresh build" % " and ".join(fresh))
+    return 0
+
+
+def is_same(one, other):
+    """Whether two files are there and have the same bytes."""
+    if not os.path.exists(other):
+        return False
+    with open(one, "rb") as first, open(other, "rb") as second:
+        return first.read() == second.read()
+
+
 def main():
     parser = argparse.ArgumentParser(description=__doc__, formatter_class=argparse.RawDescriptionHelpFormatter)
     parser.add_argument("--to", default=HERE)
-    to = os.path.abspath(parser.parse_args().to)
+    parser.add_argument("--check", action="store_true")
+    words = parser.parse_args()
+    if words.check:
+        return check()
     with tempfile.TemporaryDirectory(prefix="vtex-wasm-") as room:
-        make(kit(), to, room)
+        make(kit(), os.path.abspath(words.to), room)
+    return 0
 
 
 if __name__ == "__main__":
-    main()
+    sys.exit(main())

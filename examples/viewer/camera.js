@@ -1,9 +1,10 @@
 // What is seen: a flat map, or the ground from a camera over it, as `vtex walk` has it (docs/FORMATS.md, Rows and places), in floats.
 //
-// A map is { mode: 'map', u, v, scale }: the texel in the middle of the picture, and how many texels a pixel has.
-// A flight is { mode: 'fly', u, v, h, c, s, focal }: the camera's place and height in texels, its heading, and its focal length in widths of the
-// picture. The horizon lies just above the first row. With isWalk its rows are rounded as those of `vtex walk` are.
-import { Trouble } from './source.js';
+// A map is { mode: 'map', u, v, scale, turn }: the texel in the middle of the picture, how many texels a pixel has, and by how many radians the map is
+// turned clockwise, 0 where it is not given.
+// A flight is { mode: 'fly', u, v, h, c, s, focal }: the camera's place and height in texels, its heading, and its focal length in longer sides of the
+// picture. The horizon lies just above the first row. With isWalk it is a picture of a path: its rows and their levels are those of `vtex walk`, and its
+// focal length counts in widths.
 
 export const FOCAL = 0.5;
 const LOWEST = 1 / 64;
@@ -11,33 +12,72 @@ const LOWEST = 1 / 64;
 const around = (x, size) => ((x % size) + size) % size;
 
 /** The level that a pixel of so many texels a side has: the greatest that is no coarser, or the nearest one. */
-function levelOf(texels, rounding, last) {
+export function levelOf(texels, rounding, last) {
   const level = Math.log2(texels) + (rounding === 'round' ? 0.5 : 1e-9);
   return Math.min(Math.max(Math.floor(level), 0), last);
 }
 
-/** For each row of a picture from the top: where its first pixel is, the step from pixel to pixel, both in texels, and its level; eight numbers. */
-export function rowsOf(view, store, width, height, rounding) {
-  const rows = new Float32Array(8 * height), last = store.levels.length - 1;
+/** Whether a map's pages can be counted by columns and rows: it is not turned. Of other views the pixels themselves are read back. */
+export const isCounted = ({ mode, turn }) => mode === 'map' && !turn;
+
+/** A flight's focal length in pixels. */
+const focalOf = ({ focal, isWalk }, width, height) => focal * (isWalk ? width : Math.max(width, height));
+
+/** For each row of a picture from the top: where its first pixel is, the step from pixel to pixel, both in texels, and its level; eight numbers. `bias`
+ *  levels are added where pages are not counted and the view is no picture of a path. */
+export function rowsOf(view, store, width, height, rounding, bias = 0) {
+  const rows = new Float32Array(8 * height), last = store.levels.length - 1, more = isCounted(view) || view.isWalk ? 0 : bias;
   for (let y = 0; y < height; y++) {
-    const row = view.mode === 'map' ? mapRow(view, width, height, y) : flightRow(view, store, width, y);
+    const row = view.mode === 'map' ? mapRow(view, width, height, y) : flightRow(view, store, width, height, y);
     rows.set(row, 8 * y);
-    rows[8 * y + 4] = levelOf(Math.hypot(row[2], row[3]), rounding, last);
-    if (view.isWalk) rows[8 * y + 4] = levelOf(Math.floor(256 * view.h / (y + 1)) / 256, rounding, last);
+    rows[8 * y + 4] = Math.min(levelOf(texelsOf(view, row, width, height, y), rounding, last) + more, last);
   }
   return rows;
 }
 
-function mapRow({ u, v, scale }, width, height, y) {
-  return [u + (0.5 - width / 2) * scale, v + (y + 0.5 - height / 2) * scale, scale, 0];
+// How many texels a side a pixel of a row has. In a flight by hand a pixel is deeper than it is wide, up to hundreds of times at the horizon, and the
+// mean of both sides is taken, as of a square of the same area; a picture of a path goes by the width alone, as in vtex walk.
+function texelsOf(view, [, , du, dv], width, height, y) {
+  if (view.mode === 'map') return Math.hypot(du, dv);
+  if (view.isWalk) return Math.floor(256 * view.h / (y + 1)) / 256;
+  const across = view.h / (y + 1), deep = across * focalOf(view, width, height) / (y + 2);
+  return Math.sqrt(across * deep);
+}
+
+function mapRow({ u, v, scale, turn = 0 }, width, height, y) {
+  if (!turn) return [u + (0.5 - width / 2) * scale, v + (y + 0.5 - height / 2) * scale, scale, 0];
+  const c = scale * Math.cos(turn), s = scale * Math.sin(turn), [x, down] = [0.5 - width / 2, y + 0.5 - height / 2];
+  return [u + x * c + down * s, v - x * s + down * c, c, -s];
 }
 
 // Lengths are counted in 1/256 texel, and cut to whole ones in a picture of a path, as in vtex walk.
-function flightRow({ u, v, h, c, s, focal, isWalk }, store, width, y) {
-  const cut = isWalk ? Math.floor : (x) => x, f = isWalk ? Math.round(focal * width) : focal * width;
+function flightRow(view, store, width, height, y) {
+  const { u, v, h, c, s, isWalk } = view, cut = isWalk ? Math.floor : (x) => x, length = focalOf(view, width, height), f = isWalk ? Math.round(length) : length;
   const p = cut(256 * h / (y + 1)), z = cut(256 * h * f / (y + 1)), side = (0.5 - width / 2) * p;
   const [across, down] = [256 * u + cut(z * c) - side * s, 256 * v + cut(z * s) + side * c];
   return [around(across / 256, store.width), around(down / 256, store.height), -p * s / 256, p * c / 256];
+}
+
+/** The place on the ground under a point of the picture, in texels, or null beside the texture. `x` and `y` are in pixels, their middles at halves. */
+export function groundAt(view, store, width, height, x, y) {
+  const row = Math.min(Math.max(Math.floor(y), 0), height - 1), [u, v, du, dv] = view.mode === 'map' ? mapRow(view, width, height, y - 0.5) : flightRow(view, store, width, height, row);
+  const at = [u + (x - 0.5) * du, v + (x - 0.5) * dv];
+  if (view.mode === 'fly') return [around(at[0], store.width), around(at[1], store.height)];
+  return at[0] < 0 || at[1] < 0 || at[0] >= store.width || at[1] >= store.height ? null : at;
+}
+
+/** Where a place of the texture is in the picture, in pixels, or null where it is not before the camera. Of the copies of the ground that a flight
+ *  repeats it is the one that is nearest to the camera. */
+export function pictureAt(view, store, width, height, u, v) {
+  if (view.mode === 'map') {
+    const { scale, turn = 0 } = view, [c, s] = [Math.cos(turn), Math.sin(turn)], [x, y] = [(u - view.u) / scale, (v - view.v) / scale];
+    return [width / 2 + x * c - y * s, height / 2 + x * s + y * c];
+  }
+  const near = (from, to, size) => around(to - from + size / 2, size) - size / 2, [x, y] = [near(view.u, u, store.width), near(view.v, v, store.height)];
+  const ahead = x * view.c + y * view.s, right = y * view.c - x * view.s;
+  if (ahead <= 0) return null;
+  const f = focalOf(view, width, height), row = view.h * f / ahead - 1;
+  return [width / 2 + right * f / ahead, row + 0.5];
 }
 
 /** Calls `told` with each page that a map's pixels want, and how many do. The pages are a rectangle, so columns and rows are counted apart. */
@@ -64,27 +104,35 @@ function counted(begin, step, pixels, size, level, side, tile, filter) {
   return found;
 }
 
-/** The map that has the whole texture in a picture of this size. */
+/** The map that has the whole texture in a picture of this size. One so narrow that it would be thinner than two pixels is shown from its middle on, two
+ *  pixels thick. */
 export function fitted(store, width, height) {
-  return { mode: 'map', u: store.width / 2, v: store.height / 2, scale: Math.max(store.width / width, store.height / height) };
+  const whole = Math.max(store.width / width, store.height / height);
+  return { mode: 'map', u: store.width / 2, v: store.height / 2, scale: Math.min(whole, Math.min(store.width, store.height) / 2) };
 }
 
 /** The flight whose picture has in its middle what a map has there, looking up the map. */
-export function flightOver({ u, v, scale }, width, height) {
-  const h = scale * (height / 2 + 1);
-  return { mode: 'fly', u, v: v + scale * FOCAL * width, h, c: 0, s: -1, focal: FOCAL };
+export function flightOver({ u, v, scale, turn = 0 }, width, height) {
+  const h = scale * (height / 2 + 1), [c, s] = turn ? [-Math.sin(turn), -Math.cos(turn)] : [0, -1], z = scale * FOCAL * Math.max(width, height);
+  return { mode: 'fly', u: u - z * c, v: v - z * s, h, c, s, focal: FOCAL };
 }
 
 /** The map of what a flight has in the middle of its picture. */
-export function mapUnder({ u, v, h, c, s, focal }, store, width, height) {
-  const scale = h / (height / 2 + 1), z = scale * focal * width;
+export function mapUnder(view, store, width, height) {
+  const { u, v, h, c, s } = view, scale = h / (height / 2 + 1), z = scale * focalOf(view, width, height);
   return { mode: 'map', u: around(u + z * c, store.width), v: around(v + z * s, store.height), scale };
 }
 
-/** A view within its bounds: a map's middle on the texture, a scale of 1/64 texel to twice the whole. */
+/** A flight that goes on by hand from a picture of a path. */
+export function byHand(view, width, height) {
+  return view.mode === 'fly' && view.isWalk ? { ...view, isWalk: false, focal: view.focal * width / Math.max(width, height) } : view;
+}
+
+/** A view within its bounds: a map's middle on the texture, and a scale from 1/64 texel up to twice the whole, at least a texel a pixel; a
+ *  flight's height from 1/64 texel up to four times the longer side. */
 export function bounded(view, store, width, height) {
   if (view.mode === 'map') {
-    const scale = Math.min(Math.max(view.scale, LOWEST), 2 * fitted(store, width, height).scale);
+    const scale = Math.min(Math.max(view.scale, LOWEST), Math.max(2 * fitted(store, width, height).scale, 1));
     return { ...view, scale, u: Math.min(Math.max(view.u, 0), store.width), v: Math.min(Math.max(view.v, 0), store.height) };
   }
   const h = Math.min(Math.max(view.h, LOWEST), 4 * Math.max(store.width, store.height));
@@ -93,8 +141,27 @@ export function bounded(view, store, width, height) {
 
 /** The map in which the texel under a pixel stays there while the scale changes. */
 export function zoomed(view, by, x, y, width, height) {
-  const scale = view.scale * by;
-  return { ...view, scale, u: view.u + (x - width / 2) * (view.scale - scale), v: view.v + (y - height / 2) * (view.scale - scale) };
+  const scale = view.scale * by, [across, down] = stepOf(view, (x - width / 2) * (1 - by), (y - height / 2) * (1 - by));
+  return { ...view, scale, u: view.u + across, v: view.v + down };
+}
+
+/** A map turned by an angle, clockwise, about a pixel. */
+export function turnedMap(view, by, x, y, width, height) {
+  const [u, v] = stepOf(view, x - width / 2, y - height / 2), turn = trimmed((view.turn ?? 0) + by), [nu, nv] = stepOf({ ...view, turn }, x - width / 2, y - height / 2);
+  return { ...view, turn, u: view.u + u - nu, v: view.v + v - nv };
+}
+
+// An angle from above minus a half turn to a half turn; next to nothing is nothing, so that the map's pages are counted again.
+function trimmed(angle) {
+  const turn = angle - 2 * Math.PI * Math.round(angle / (2 * Math.PI));
+  return Math.abs(turn) < 1e-6 ? 0 : turn;
+}
+
+/** A step of so many pixels right and down on a map, in texels. */
+export function stepOf({ scale, turn }, right, down) {
+  if (!turn) return [right * scale, down * scale];
+  const [c, s] = [Math.cos(turn), Math.sin(turn)];
+  return [scale * (right * c + down * s), scale * (down * c - right * s)];
 }
 
 /** The heading of a flight, turned by an angle. */
@@ -103,76 +170,5 @@ export function turned(view, by) {
   return { ...view, c: Math.cos(angle), s: Math.sin(angle) };
 }
 
-// ---- in the address
-
-const short = (number, digits = 2) => String(Number(number.toFixed(digits)));
-
-/** A view as the address has it, as map=512,256,1.5 or fly=512,256,40,-90. */
-function wordsOf(view) {
-  if (view.mode === 'map') return `map=${short(view.u)},${short(view.v)},${short(view.scale, 5)}`;
-  const turn = Math.atan2(view.s, view.c) * 180 / Math.PI;
-  return `fly=${[view.u, view.v, view.h, turn].map((it) => short(it)).join(',')}${view.focal === FOCAL ? '' : ',' + short(view.focal, 4)}`;
-}
-
-/** The view that such words name, or null. */
-function viewOf(words) {
-  const [, mode, text] = /^(map|fly)=([-\d.,e]+)$/.exec(words) ?? [];
-  const numbers = (text ?? '').split(',').map(Number);
-  if (!mode || numbers.length < (mode === 'map' ? 3 : 4) || !numbers.every(Number.isFinite)) return null;
-  const [u, v, third, turn, focal = FOCAL] = numbers;
-  if (mode === 'map') return { mode, u, v, scale: third };
-  return { mode, u, v, h: third, c: Math.cos(turn * Math.PI / 180), s: Math.sin(turn * Math.PI / 180), focal };
-}
-
-/** The words of a look: of its view, and of what is not as it is by itself. */
-export function wordsOfLook({ view, filter, rounding }) {
-  const parts = [wordsOf(view)];
-  if (filter !== 'nearest') parts.push('filter=' + filter);
-  if (rounding !== roundingOf(view)) parts.push('level=' + rounding);
-  return parts.join('&');
-}
-
-/** How levels are chosen where nothing is said: the nearest one on a map, as in vtex walk in a flight. */
+/** How levels are chosen where nothing names it: the nearest one on a map, the finer one in a flight, as in vtex walk. */
 export const roundingOf = (view) => (view.mode === 'map' ? 'round' : 'floor');
-
-/** The look that an address names; the view is the one given where it names none. */
-export function lookOf(address, view) {
-  const [first, ...rest] = address.replace(/^#/, '').split('&'), words = new URLSearchParams(rest.join('&')), found = viewOf(first) ?? view;
-  return {
-    view: found,
-    filter: words.get('filter') === 'bilinear' ? 'bilinear' : 'nearest',
-    rounding: ['round', 'floor'].includes(words.get('level')) ? words.get('level') : roundingOf(found),
-  };
-}
-
-// ---- paths
-
-const between = (text, least, most) => (/^(0|-?[1-9][0-9]{0,15})$/.test(text) && Number(text) >= least && Number(text) <= most ? Number(text) : NaN);
-const KEY = [[-(2 ** 31), 2 ** 31], [-(2 ** 31), 2 ** 31], [1, 2 ** 24], [-16384, 16384], [-16384, 16384]];
-
-/** The pictures of a path file (docs/FORMATS.md, Paths): a flight each. */
-export function pathOf(text) {
-  const lines = text.split('\n'), bad = (i) => new Trouble(`The path has a bad line: line ${i + 1}.`);
-  if (lines.pop() !== '') throw bad(lines.length);
-  const [, width, height] = numbersOf(lines[0], 'size', [[1, 2048], [1, 2048]]) ?? [];
-  if (!width || !height) throw bad(0);
-  const [, focal] = numbersOf(lines[1], 'focal', [[1, 4096]]) ?? [];
-  if (!focal) throw bad(1);
-  const keys = [];
-  for (let i = 2; i < lines.length; i++) {
-    const at = numbersOf(lines[i], 'at', KEY), to = numbersOf(lines[i], 'to', [[1, 9999], ...KEY]);
-    if (!at && !(to && keys.length > 0)) throw bad(i);
-    const [count, key] = at ? [1, at.slice(1)] : [to[1], to.slice(2)], last = at ? key : keys.at(-1);
-    if (keys.length + count > 9999) throw new Trouble('The path has too many pictures.');
-    for (let j = 1; j <= count; j++) keys.push(key.map((number, k) => last[k] + Math.floor((number - last[k]) * j / count)));
-  }
-  return keys.map(([u, v, h, c, s]) => ({ mode: 'fly', u: u / 256, v: v / 256, h: h / 256, c: c / 16384, s: s / 16384, focal: focal / width }));
-}
-
-// A line's numbers behind its word, which is the first of the list; null where the line is none of that form.
-function numbersOf(line, word, bounds) {
-  const fields = (line ?? '').split(' ');
-  if (fields[0] !== word || fields.length !== bounds.length + 1) return null;
-  const numbers = bounds.map(([least, most], i) => between(fields[i + 1], least, most));
-  return numbers.some(Number.isNaN) ? null : [word, ...numbers];
-}

@@ -25,6 +25,11 @@ export class Flaw extends Error {
   }
 }
 
+/** As much of a text as is worth showing. */
+export function shortened(text) {
+  return text.length > 80 ? `${text.slice(0, 80)}..` : text;
+}
+
 const NOT_STORE = 'This file is no store: its first 16 bytes or its length are not those of one.';
 const STATUSES = {
   VTEX_BAD_STORE: ['not-store', NOT_STORE],
@@ -36,4 +41,4 @@ const STATUSES = {
 export const kindOf = (error) => error.kind ?? STATUSES[error.name]?.[0] ?? 'other';
 
 /** The sentence of any error, for the page. */
-export const sentenceOf = (error) => STATUSES[error.name]?.[1] ?? error.message;
+export const sentenceOf = (error) => STATUSES[error.name]?.[1] ?? (error instanceof Flaw ? `The file is refused: ${error.message} (${error.why}).` : error.message);

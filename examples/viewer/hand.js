@@ -1,129 +1,140 @@
-// What the hand does: dragging, the wheel, pinching, keys and buttons.
-import { lookOf, pathOf, turned, zoomed } from './camera.js';
-
-/** Binds a viewer to the page's controls; `at` gives an element by its name. */
-export function takeHands(viewer, at) {
-  takePointers(viewer);
-  takeWheel(viewer);
-  takeKeys(viewer, at);
-  takeButtons(viewer, at);
-  const show = viewer.set.bind(viewer);
-  viewer.set = (changes) => {
-    show(changes);
-    showState(viewer, at);
-  };
-  showState(viewer, at);
-  addEventListener('resize', () => viewer.schedule());
-  addEventListener('hashchange', () => { if (location.hash !== viewer.address) viewer.set(lookOf(location.hash, viewer.look.view)); });
-}
-
-function showState({ look, store, offered }, at) {
-  at('mode').textContent = look.view.mode === 'map' ? 'Flight' : 'Map';
-  at('filter').value = look.filter;
-  at('rounding').value = look.rounding;
-  at('tint').checked = look.showsLevels;
-  at('contrast').hidden = store.depth === 1;
-  at('play').hidden = !offered;
-}
+// What the hand does in a canvas: dragging with inertia, the wheel, pinching, and keys. It moves an engine.
+import { stepOf, turned, turnedMap, zoomed } from './camera.js';
 
 const ratio = () => devicePixelRatio || 1;
+const isStill = () => matchMedia('(prefers-reduced-motion: reduce)').matches;
+
+const DECAY = 200, SLOWEST = 0.02, LATE = 60;              // inertia: milliseconds to an e-th, pixels a millisecond at the end, age of a last move in ms
+const TWIST = 0.15, QUARTER = Math.PI / 12;                // two fingers turn a map from so many radians on; a key turns it by 15 degrees
 
 // A step over the ground in a flight's heading and to its right.
-function walked(view, ahead, right) {
-  return { ...view, u: view.u + ahead * view.c - right * view.s, v: view.v + ahead * view.s + right * view.c };
+const walked = (view, ahead, right) => ({ ...view, u: view.u + ahead * view.c - right * view.s, v: view.v + ahead * view.s + right * view.c });
+
+function dragged(engine, dx, dy) {
+  const { view } = engine.look;
+  engine.path = null;
+  if (view.mode === 'map') {
+    const [u, v] = stepOf(view, dx, dy);
+    engine.move({ ...view, u: view.u - u, v: view.v - v });
+  } else engine.move({ ...turned(view, dx / 400), h: view.h * 2 ** (dy / 200) });
 }
 
-function dragged(viewer, dx, dy) {
-  const { view } = viewer.look;
-  viewer.path = null;
-  if (view.mode === 'map') viewer.move({ ...view, u: view.u - dx * view.scale, v: view.v - dy * view.scale });
-  else viewer.move({ ...turned(view, dx / 400), h: view.h * 2 ** (dy / 200) });
+function grown(engine, by, x, y) {
+  const { look: { view }, canvas } = engine;
+  engine.path = null;
+  if (view.mode === 'map') engine.move(zoomed(view, by, x ?? canvas.width / 2, y ?? canvas.height / 2, canvas.width, canvas.height));
+  else engine.move({ ...view, h: view.h * by });
 }
 
-function grown(viewer, by, x, y) {
-  const { look: { view }, canvas } = viewer;
-  if (view.mode === 'map') viewer.move(zoomed(view, by, x ?? canvas.width / 2, y ?? canvas.height / 2, canvas.width, canvas.height));
-  else viewer.move({ ...view, h: view.h * by });
+function twisted(engine, by, x, y) {
+  const { look: { view }, canvas } = engine;
+  if (view.mode === 'map') engine.move(turnedMap(view, by, x ?? canvas.width / 2, y ?? canvas.height / 2, canvas.width, canvas.height));
+  else engine.move(turned(view, by));
 }
 
-function takePointers(viewer) {
-  const { canvas } = viewer, downs = new Map();
-  const middle = () => [...downs.values()].reduce(([x, y], it) => [x + it.x / downs.size, y + it.y / downs.size], [0, 0]);
-  const spread = () => { const [a, b] = downs.values(); return b ? Math.hypot(a.x - b.x, a.y - b.y) : 0; };
-  const placed = (event) => ({ x: event.offsetX * ratio(), y: event.offsetY * ratio() });
-  canvas.addEventListener('pointerdown', (event) => {
-    canvas.setPointerCapture(event.pointerId);
-    downs.set(event.pointerId, placed(event));
-  });
-  canvas.addEventListener('pointermove', (event) => {
-    if (!downs.has(event.pointerId)) return;
-    const [x, y] = middle(), before = spread();
-    downs.set(event.pointerId, placed(event));
-    const [newX, newY] = middle(), after = spread();
-    dragged(viewer, newX - x, newY - y);
-    if (before > 0 && after > 0) grown(viewer, before / after, newX, newY);
-  });
-  for (const name of ['pointerup', 'pointercancel']) canvas.addEventListener(name, (event) => downs.delete(event.pointerId));
-  canvas.addEventListener('dblclick', (event) => grown(viewer, event.shiftKey ? 2 : 0.5, placed(event).x, placed(event).y));
+/** Turns a map so that the texture's first row is up. */
+export function north(engine) {
+  const { view } = engine.look;
+  if (view.mode === 'map') engine.move({ ...view, turn: 0 });
 }
 
-function takeWheel(viewer) {
-  viewer.canvas.addEventListener('wheel', (event) => {
+/** Shows a texel a pixel. */
+export function oneToOne(engine) {
+  if (engine.look.view.mode === 'fly') engine.changeMode();
+  engine.move({ ...engine.look.view, scale: 1 });
+}
+
+/** Binds a canvas to the engine that `engineOf` returns, or to nothing where it returns null. `more` has keys beside those of every view, each a function.
+ *  Letters act while the canvas has the focus, and only then. Returns a function that ends it. */
+export function takeHands(canvas, engineOf, more = {}) {
+  const ends = new AbortController(), on = (name, does, how = {}) => canvas.addEventListener(name, (event) => engineOf()?.look && does(event, engineOf()), { signal: ends.signal, ...how });
+  takePointers(canvas, on, engineOf);
+  on('wheel', (event, engine) => {
     event.preventDefault();
-    const turn = event.deltaY * (event.deltaMode === 1 ? 30 : 1), { view } = viewer.look;
-    viewer.path = null;
-    if (view.mode === 'map') grown(viewer, 2 ** (turn / 300), event.offsetX * ratio(), event.offsetY * ratio());
-    else viewer.move(walked(view, -turn * view.h / 100, 0));
+    const turn = event.deltaY * [1, 30, 300][event.deltaMode], { view } = engine.look, { x, y } = placed(event);
+    engine.path = null;
+    if (event.shiftKey && view.mode === 'map') twisted(engine, (event.deltaY || event.deltaX) / 600, x, y);
+    else if (view.mode === 'map') grown(engine, 2 ** (turn / 300), x, y);
+    else engine.move(walked(view, -turn * view.h / 100, 0));
   }, { passive: false });
-}
-
-function takeKeys(viewer, at) {
-  const step = (right, down) => {
-    const { look: { view }, canvas } = viewer;
-    if (view.mode === 'map') dragged(viewer, -right * canvas.width / 8, -down * canvas.width / 8);
-    else viewer.move(walked(turned(view, right * Math.PI / 36), -down * view.h / 2, 0));
-  };
-  const keys = {
-    ArrowLeft: () => step(-1, 0), ArrowRight: () => step(1, 0), ArrowUp: () => step(0, -1), ArrowDown: () => step(0, 1),
-    '+': () => grown(viewer, 0.8), '=': () => grown(viewer, 0.8), '-': () => grown(viewer, 1.25), PageUp: () => grown(viewer, 1.25), PageDown: () => grown(viewer, 0.8),
-    f: () => at('fit').click(), 0: () => at('fit').click(), Home: () => at('fit').click(), 1: () => at('one').click(), m: () => at('mode').click(),
-    b: () => viewer.set({ filter: viewer.look.filter === 'nearest' ? 'bilinear' : 'nearest' }), l: () => at('tint').click(),
-    p: () => at('more').click(), ' ': () => viewer.offered && at('play').click(),
-  };
-  addEventListener('keydown', (event) => {
-    if (event.ctrlKey || event.metaKey || event.altKey || /^(INPUT|SELECT|TEXTAREA)$/.test(event.target.tagName)) return;
-    if (event.key === ' ' && event.target.tagName === 'BUTTON') return;
-    const does = keys[event.key.length === 1 ? event.key.toLowerCase() : event.key];
+  on('dblclick', (event, engine) => grown(engine, event.shiftKey ? 2 : 0.5, placed(event).x, placed(event).y));
+  on('keydown', (event, engine) => {
+    if (event.ctrlKey || event.metaKey || event.altKey) return;
+    const keys = { ...keysOf(engine), ...more }, does = keys[event.key.length === 1 ? event.key.toLowerCase() : event.key];
     if (!does) return;
     event.preventDefault();
     does();
   });
+  return () => ends.abort();
 }
 
-function takeButtons(viewer, at) {
-  const on = (name, kind, does) => at(name).addEventListener(kind, (event) => does(event.target));
-  on('fit', 'click', () => viewer.fit());
-  on('one', 'click', () => {
-    if (viewer.look.view.mode === 'fly') viewer.changeMode();
-    viewer.move({ ...viewer.look.view, scale: 1 });
+const placed = (event) => ({ x: event.offsetX * ratio(), y: event.offsetY * ratio() });
+
+function takePointers(canvas, on, engineOf) {
+  const downs = new Map();
+  let speed = [0, 0], last = 0, twist = 0, coasting = 0;
+  const middle = () => [...downs.values()].reduce(([x, y], it) => [x + it.x / downs.size, y + it.y / downs.size], [0, 0]);
+  const between = () => {
+    const [a, b] = downs.values();
+    return b ? { spread: Math.hypot(a.x - b.x, a.y - b.y), angle: Math.atan2(b.y - a.y, b.x - a.x) } : { spread: 0, angle: 0 };
+  };
+  const rest = () => {
+    cancelAnimationFrame(coasting);
+    speed = [0, 0];
+  };
+  on('pointerdown', (event) => {
+    rest();
+    canvas.setPointerCapture(event.pointerId);
+    downs.set(event.pointerId, placed(event));
+    twist = 0;
   });
-  on('mode', 'click', () => viewer.changeMode());
-  on('filter', 'change', ({ value }) => viewer.set({ filter: value }));
-  on('rounding', 'change', ({ value }) => viewer.set({ rounding: value }));
-  on('tint', 'change', ({ checked }) => viewer.set({ showsLevels: checked }));
-  for (const name of ['black', 'white']) on(name, 'input', () => viewer.set({ range: [at('black').valueAsNumber || 0, at('white').valueAsNumber || 1] }));
-  on('more', 'click', () => {
-    at('panel').hidden = !at('panel').hidden;
-    viewer.schedule();
-  });
-  on('play', 'click', () => viewer.play(viewer.path ? null : viewer.offered));
-  on('path', 'change', async ({ files }) => {
-    try {
-      viewer.offered = pathOf(await files[0].text());
-      viewer.play(viewer.offered);
-    } catch (error) {
-      at('trouble').textContent = error.message;
-      at('trouble').hidden = false;
+  on('pointermove', (event, engine) => {
+    if (!downs.has(event.pointerId)) return;
+    const [x, y] = middle(), before = between();
+    downs.set(event.pointerId, placed(event));
+    const [newX, newY] = middle(), after = between(), now = performance.now(), time = Math.max(now - last, 4);
+    if (event.shiftKey && downs.size === 1 && engine.look.view.mode === 'map') {
+      twisted(engine, (newX - x) / 200);
+      return;
     }
+    dragged(engine, newX - x, newY - y);
+    speed = now - last > LATE ? [0, 0] : [0, 1].map((i) => 0.6 * speed[i] + 0.4 * [newX - x, newY - y][i] / time);
+    last = now;
+    if (!before.spread || !after.spread) return;
+    grown(engine, before.spread / after.spread, newX, newY);
+    const by = Math.atan2(Math.sin(after.angle - before.angle), Math.cos(after.angle - before.angle));
+    twist += by;
+    if (Math.abs(twist) > TWIST && engine.look.view.mode === 'map') twisted(engine, by, newX, newY);
   });
+  const up = (event) => {
+    if (!downs.delete(event.pointerId) || downs.size > 0) return;
+    if (event.type === 'pointerup' && event.pointerType !== undefined && performance.now() - last < LATE && !isStill()) coast(performance.now());
+  };
+  for (const name of ['pointerup', 'pointercancel', 'lostpointercapture']) on(name, up);
+  on('wheel', rest, { passive: true });
+  on('keydown', rest);
+  const coast = (before) => {
+    coasting = requestAnimationFrame((now) => {
+      const engine = engineOf(), time = Math.max(now - before, 0);
+      if (!engine?.look || Math.hypot(...speed) < SLOWEST || downs.size > 0) return;
+      dragged(engine, speed[0] * time, speed[1] * time);
+      speed = speed.map((it) => it * Math.exp(-time / DECAY));
+      coast(now);
+    });
+  };
+}
+
+function keysOf(engine) {
+  const step = (right, down) => {
+    const { look: { view }, canvas } = engine;
+    if (view.mode === 'map') dragged(engine, -right * canvas.width / 8, -down * canvas.width / 8);
+    else engine.move(walked(turned(view, right * Math.PI / 36), -down * view.h / 2, 0));
+  };
+  const [near, far, fit] = [() => grown(engine, 0.8), () => grown(engine, 1.25), () => engine.fit()];
+  return {
+    ArrowLeft: () => step(-1, 0), ArrowRight: () => step(1, 0), ArrowUp: () => step(0, -1), ArrowDown: () => step(0, 1),
+    '+': near, '=': near, PageDown: near, '-': far, PageUp: far, f: fit, 0: fit, Home: fit, 1: () => oneToOne(engine), m: () => engine.changeMode(),
+    '[': () => twisted(engine, -QUARTER), ']': () => twisted(engine, QUARTER), n: () => north(engine),
+    b: () => engine.set({ filter: engine.look.filter === 'nearest' ? 'bilinear' : 'nearest' }), l: () => engine.set({ showsLevels: !engine.look.showsLevels }),
+  };
 }

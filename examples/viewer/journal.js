@@ -1,6 +1,8 @@
 // Reads the journals of vtex by docs/FORMATS.md, and refuses what is none with the first line that may not be where it is.
 
-import { Flaw, indexOf, LOST, MAP, nameOf, shortened, UNMAP } from './replay.js';
+import { Flaw, shortened } from './errors.js';
+import { indexOf, nameOf } from './geometry.js';
+import { LOST, MAP, UNMAP } from './replay.js';
 
 const FRAMES = 65535, SAMPLERS = 64, LINE_FEED = 10, ZERO = 48;
 // What stands around the numbers of each line; most lines are rows.

@@ -2,10 +2,17 @@
 // a new message stops what the last one began. Answers carry the number of their message.
 
 import { readJournal } from './journal.js';
-import { Drawing, Flaw, openStore, readPath } from './replay.js';
-import { sourceOf, TileSource, Unread } from './player-source.js';
+import { Drawing } from './replay.js';
+import { Failed, Flaw, sentenceOf, Trouble } from './errors.js';
+import { readPath } from './path.js';
+import { AGAIN, TileSource } from './player-source.js';
+import { sourceOf, tried } from './source.js';
+import { load, VtexError } from './vtex.js';
 
-let walk = null, drawing = null, tiles = null, stop = new AbortController(), last = Promise.resolve();
+// A server without ranges may send whole files of at most so many bytes.
+const MOST_WHOLE = 1 << 30;
+
+let library = null, walk = null, drawing = null, tiles = null, stop = new AbortController(), last = Promise.resolve();
 
 const JOBS = { open, draw };
 
@@ -24,13 +31,14 @@ async function work({ job, number, ...words }, signal) {
     const [answer, handed] = await JOBS[job](words, signal);
     postMessage({ job, number, ...answer }, handed);
   } catch (error) {
-    postMessage({ job, number, ...(error.name === 'AbortError' ? { stopped: true } : { failed: sentenceOf(error) }) });
+    postMessage({ job, number, ...(error.name === 'AbortError' ? { stopped: true } : { failed: toldOf(error) }) });
   }
 }
 
-function sentenceOf(error) {
+function toldOf(error) {
   if (error instanceof Flaw) return { line: error.message, why: error.why };
-  return { line: error instanceof Unread ? error.message : `${error.name}: ${error.message}`, why: '' };
+  const isKnown = [Trouble, Failed, VtexError].some((kind) => error instanceof kind);
+  return { line: isKnown ? sentenceOf(error) : `${error.name}: ${error.message}`, why: '' };
 }
 
 // What was read of each file, or why it is refused. A journal is judged once the two others are read.
@@ -39,18 +47,20 @@ async function open({ files }, signal) {
   const reading = async (name, read) => {
     if (files[name] === null) return;
     try {
-      said[name] = await read(sourceOf(files[name]));
+      said[name] = await read(sourceOf(files[name], { mostWhole: MOST_WHOLE }));
     } catch (error) {
       if (error.name === 'AbortError') throw error;
-      failed[name] = sentenceOf(error);
+      failed[name] = toldOf(error);
     }
   };
   let text = null;
   walk = drawing = tiles = null;
+  library ??= await load();
+  const whole = (source) => tried(() => source.whole(signal), { signal, most: AGAIN });
   await Promise.all([
-    reading('path', async (source) => readPath(await source.whole(signal))),
-    reading('store', async (source) => (tiles = await TileSource.open(source, signal)).store),
-    reading('journal', async (source) => { text = await source.whole(signal); return null; }),
+    reading('path', async (source) => readPath(await whole(source))),
+    reading('store', async (source) => (tiles = await TileSource.open(library, source, signal)).store),
+    reading('journal', async (source) => { text = await whole(source); return null; }),
   ]);
   if (text !== null && said.path && said.store) await reading('journal', () => readJournal(text, said.store, said.path.height, said.path.pictures));
   if (said.journal) {

@@ -4,7 +4,8 @@
 
 import { eventLine, eventsOf, lastPasses, lineOfPass, passOfVersion } from './journal.js';
 import { coarserThanWanted, countsOf, drawLine, drawRows, EventList, imageOf, legendOf, passAt, Residency, rowAt, scaleOf, versionAt } from './player-views.js';
-import { LOST, MAP, nameOf, pictureFile, pixelOf, sampleAt, storeLine, Table, UNMAP } from './replay.js';
+import { nameOf, storeLine } from './geometry.js';
+import { LOST, MAP, pictureFile, pixelOf, sampleAt, Table, UNMAP } from './replay.js';
 
 const FILES = ['store', 'path', 'journal'];
 const MOST_KEPT = 192 << 20;

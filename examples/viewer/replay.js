@@ -1,124 +1,12 @@
-// Reads the stores, paths and journals of vtex, and draws the pictures that a journal tells, by docs/FORMATS.md.
+// Draws the pictures of a journal, by docs/FORMATS.md.
 //
 // Pure functions over bytes, for a page, its worker and node; nothing is read or fetched here. All numbers are integers below 2^53, so that sums and
 // products are exact. Quotients rounded down are too: a quotient that is no whole number lies further below the next one than it is rounded.
 
+import { indexOf, tileStart } from './geometry.js';
+
 export const NEAREST = 'nearest', BILINEAR = 'bilinear';
 export const UNMAP = 0, MAP = 1, LOST = 2;
-export const HEAD_BYTES = 16;
-
-const TILES = [2, 4, 8, 16, 32, 64, 128];
-const MOST_SIDE = 16384, MOST_PAGES = 262144, MOST_PICTURES = 9999;
-
-/** Bytes are outside their format. The message is what the program prints of them; `why` says more, for people. */
-export class Flaw extends Error {
-  constructor(line, why) {
-    super(line);
-    this.why = why;
-  }
-}
-
-/** As much of a text as is worth showing. */
-export function shortened(text) {
-  return text.length > 80 ? `${text.slice(0, 80)}..` : text;
-}
-
-// ---- Stores
-
-/** How a texture of these sides is cut into pages of `tile` by `tile` texels, or null where it cannot be: its levels, the finest first, each with its
- *  sides, its columns and rows of pages and the index of its first page; and the number of all pages. */
-export function geometryOf(width, height, tile) {
-  const isSide = (side) => side >= 1 && side <= MOST_SIDE;
-  if (!isSide(width) || !isSide(height) || !TILES.includes(tile)) return null;
-  const levels = [];
-  let pages = 0;
-  for (let w = width, h = height; ; w = (w + 1) >> 1, h = (h + 1) >> 1) {
-    const columns = Math.ceil(w / tile), rows = Math.ceil(h / tile);
-    levels.push({ width: w, height: h, columns, rows, first: pages });
-    pages += columns * rows;
-    if (w <= tile && h <= tile) break;
-  }
-  return pages <= MOST_PAGES ? { width, height, tile, levels, pages } : null;
-}
-
-/** The geometry of a store with its depth in bytes, from its first 16 bytes, or as many as it has, and its length. */
-export function openStore(head, length) {
-  const magic = String.fromCharCode(...head.subarray(0, 4));
-  if (magic !== 'VTS1' && magic !== 'VTS2') throw new Flaw('bad magic', 'a store begins with VTS1 or VTS2');
-  if (length < HEAD_BYTES) throw new Flaw(`length ${length}, wanted ${HEAD_BYTES}`, 'its header is cut short');
-  const numbers = new DataView(head.buffer, head.byteOffset), [width, height, tile] = [4, 8, 12].map((at) => numbers.getUint32(at));
-  const geometry = geometryOf(width, height, tile), depth = magic === 'VTS1' ? 1 : 2;
-  if (geometry === null) throw new Flaw('bad geometry', `sides ${width} and ${height} in tiles of ${tile}`);
-  const tileBytes = 3 * depth * tile * tile, want = HEAD_BYTES + geometry.pages * tileBytes;
-  if (length !== want) throw new Flaw(`length ${length}, wanted ${want}`, length < want ? 'its tiles are cut short' : 'bytes follow its last tile');
-  return { ...geometry, depth, tileBytes, length };
-}
-
-/** What `vtex info` prints of a store. */
-export function storeLine({ width, height, tile, levels, pages, length }) {
-  return `store ${width} ${height} tile ${tile} levels ${levels.length} pages ${pages} bytes ${length}`;
-}
-
-/** Where a page's tile begins in its store. */
-export function tileStart({ tileBytes }, page) {
-  return HEAD_BYTES + tileBytes * page;
-}
-
-/** The index of the page of a level in a column and a row, or -1 where there is none. */
-export function indexOf({ levels }, level, column, row) {
-  if (level >= levels.length || column >= levels[level].columns || row >= levels[level].rows) return -1;
-  return levels[level].first + row * levels[level].columns + column;
-}
-
-/** The level, column and row of a page. */
-export function nameOf({ levels }, page) {
-  const level = levels.findLastIndex(({ first }) => first <= page), at = page - levels[level].first;
-  return [level, at % levels[level].columns, Math.floor(at / levels[level].columns)];
-}
-
-// ---- Paths
-
-const CAMERA = [[-(2 ** 31), 2 ** 31], [-(2 ** 31), 2 ** 31], [1, 2 ** 24], [-(2 ** 14), 2 ** 14], [-(2 ** 14), 2 ** 14]];
-const NUMBER = /^(0|-?[1-9][0-9]{0,18})$/;
-
-// The numbers of a line that begins with a word, or null where it is none of this form.
-function numbersOf([word, ...fields], wanted, bounds) {
-  if (word !== wanted || fields.length !== bounds.length) return null;
-  const numbers = fields.map((field) => (NUMBER.test(field) ? Number(field) : NaN));
-  return numbers.every((number, i) => number >= bounds[i][0] && number <= bounds[i][1]) ? numbers : null;
-}
-
-/** A path's sides of pictures, its focal number, and the camera of each picture: five numbers u, v, h, c and s in `cameras`. */
-export function readPath(bytes) {
-  const lines = new TextDecoder('latin1').decode(bytes).split('\n'), rest = lines.pop();
-  const path = { width: 0, height: 0, focal: 0, pictures: 0, cameras: [] };
-  lines.forEach((line, i) => takePathLine(path, line.split(' '), i + 1));
-  if (rest !== '' || lines.length < 2) throw new Flaw(`bad line ${lines.length + 1}`, rest === '' ? 'it is missing' : 'it has no line feed');
-  return { ...path, cameras: Float64Array.from(path.cameras) };
-}
-
-function takePathLine(path, fields, line) {
-  const must = (numbers) => {
-    if (numbers === null) throw new Flaw(`bad line ${line}`, `it is '${shortened(fields.join(' '))}'`);
-    return numbers;
-  };
-  if (line === 1) [path.width, path.height] = must(numbersOf(fields, 'size', [[1, 2048], [1, 2048]]));
-  else if (line === 2) [path.focal] = must(numbersOf(fields, 'focal', [[1, 4096]]));
-  else if (fields[0] === 'at') addCameras(path, 1, must(numbersOf(fields, 'at', CAMERA)));
-  else {
-    const [steps, ...camera] = must(numbersOf(fields, 'to', [[1, 9999], ...CAMERA]));
-    if (path.pictures === 0) throw new Flaw(`no key at line ${line}`, 'the first key is an `at` line');
-    addCameras(path, steps, camera);
-  }
-}
-
-function addCameras(path, steps, camera) {
-  if (path.pictures + steps > MOST_PICTURES) throw new Flaw('too many pictures', `${path.pictures + steps} of at most ${MOST_PICTURES}`);
-  const from = steps === 1 ? camera : path.cameras.slice(-5);
-  for (let i = 1; i <= steps; i++) camera.forEach((to, at) => path.cameras.push(from[at] + Math.floor(((to - from[at]) * i) / steps)));
-  path.pictures += steps;
-}
-
 // ---- The table of a journal (read in journal.js) at a version
 
 /** The page table of a journal: `frames` has each page's frame, or -1, at `version`. */

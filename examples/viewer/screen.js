@@ -1,8 +1,19 @@
-// Draws by WebGL 2 what is mapped, and what the pixels want. The frames are one texture of samples, the page table another of entries.
-import { Trouble } from './source.js';
+// Draws by WebGL 2 what is mapped, and what the pixels want. The frames are up to eight textures of samples, sheets, each made when its first frame is
+// used; the page table is another texture, of entries.
+import { Trouble } from './errors.js';
 import { rowsOf } from './camera.js';
 
-const PAGES_A_ROW = 512;
+const PAGES_A_ROW = 512, SHEETS = 8, FIRST_SHEET = 3, SHEET_FRAMES = 64;
+
+// Colours for the black to the white end of a range, in steps of the same width.
+const RAMPS = {
+  grey: ['#000000', '#ffffff'],
+  viridis: ['#440154', '#46327e', '#365c8d', '#277f8e', '#1fa187', '#4ac16d', '#a0da39', '#fde725'],
+  terrain: ['#2f6b4f', '#5f9a55', '#a8bf6a', '#d9cf8a', '#c4a06a', '#9a7355', '#b8a79c', '#ffffff'],
+};
+const LONGEST_RAMP = 8;
+const RELIEF = 8;                                          // the range is as high as this part of the longer side, where hills are shaded
+const BESIDE = [0.09, 0.1, 0.12];
 
 const COMMON = `#version 300 es
 precision highp float; precision highp int; precision highp usampler2D; precision highp sampler2D;
@@ -57,7 +68,14 @@ void main() {
 }`;
 
 const DRAW = `${COMMON}
-uniform usampler2D table, frames; uniform int across; uniform bool shows_levels; uniform vec2 range; out vec4 colour;
+uniform usampler2D table, sheets[${SHEETS}]; uniform int across, a_sheet; uniform bool shows_levels, is_coloured, is_hill; uniform vec2 range;
+uniform vec3 ramp[${LONGEST_RAMP}]; uniform int steps; uniform float relief; uniform vec3 beside; uniform vec2 east, south; out vec4 colour;
+uvec4 sample_of(int sheet, ivec2 texel) {
+  switch (sheet) {
+${Array.from({ length: SHEETS }, (_, i) => `    case ${i}: return texelFetch(sheets[${i}], texel, 0);`).join('\n')}
+  }
+  return uvec4(0);
+}
 // The texel that stands for one of level k, by the first page of its page's line that is mapped.
 vec3 shown(int k, ivec2 texel, out int level) {
   uint entry = 0u;
@@ -67,22 +85,40 @@ vec3 shown(int k, ivec2 texel, out int level) {
     entry = texelFetch(table, ivec2(page & ${PAGES_A_ROW - 1}, page / ${PAGES_A_ROW}), 0).r;
     if (entry != 0u) break;
   }
-  int frame = int(entry) - 1;
-  return vec3(texelFetch(frames, ivec2(frame % across, frame / across) * tile + (place & (tile - 1)), 0).rgb);
+  int frame = int(entry) - 1, in_sheet = frame % a_sheet;
+  return vec3(sample_of(frame / a_sheet, ivec2(in_sheet % across, in_sheet / across) * tile + (place & (tile - 1))).rgb);
+}
+vec3 filtered(vec2 at, int k, out int level) {
+  if (!is_bilinear) return shown(k, clamp(ivec2(at) >> k, ivec2(0), levels[k].xy - 1), level);
+  vec2 weights;
+  ivec2 first = corner(at, k, weights);
+  vec3 four[4];
+  for (int i = 0; i < 4; i++) four[i] = shown(k, neighbour(first, i, k), level);
+  return mix(mix(four[0], four[1], weights.x), mix(four[2], four[3], weights.x), weights.y);
+}
+// Light from the upper left of the picture, at half a right angle, on the heights of the first channel; a level surface keeps its colour.
+float light(vec2 at, int k) {
+  int level;
+  float step = float(1 << k), unit = relief / ((range.y - range.x) * step);
+  vec2 sides = vec2(levels[0].xy), most = sides - 1.0 / 1024.0;
+  vec2 a = clamp(at + east * step, vec2(0), most), b = clamp(at - east * step, vec2(0), most), c = clamp(at + south * step, vec2(0), most), d = clamp(at - south * step, vec2(0), most);
+  float rise = (filtered(a, k, level).r - filtered(b, k, level).r) * unit * 0.5, fall = (filtered(c, k, level).r - filtered(d, k, level).r) * unit * 0.5;
+  return max(dot(normalize(vec3(-rise, -fall, 1)), vec3(-0.5, -0.5, 0.7071)), 0.0) / 0.7071;
 }
 void main() {
   ivec2 pixel = ivec2(gl_FragCoord.xy);
   pixel.y = size.y - 1 - pixel.y;
-  int k, level; vec2 weights, at = ground(pixel, k);
-  if (k < 0) { colour = vec4(0.09, 0.1, 0.12, 1); return; }
-  vec3 samples;
-  if (is_bilinear) {
-    ivec2 first = corner(at, k, weights);
-    vec3 four[4];
-    for (int i = 0; i < 4; i++) four[i] = shown(k, neighbour(first, i, k), level);
-    samples = mix(mix(four[0], four[1], weights.x), mix(four[2], four[3], weights.x), weights.y);
-  } else samples = shown(k, ivec2(at) >> k, level);
-  colour = vec4((samples - range.x) / (range.y - range.x), 1);
+  int k, level;
+  vec2 at = ground(pixel, k);
+  if (k < 0) { colour = vec4(beside, 1); return; }
+  vec3 part = (filtered(at, k, level) - range.x) / (range.y - range.x);
+  if (is_coloured) {
+    float place = clamp(part.r, 0.0, 1.0) * float(steps - 1);
+    int low = min(int(place), steps - 2);
+    part = mix(ramp[low], ramp[low + 1], place - float(low));
+  }
+  if (is_hill) part = clamp(part, 0.0, 1.0) * light(at, k);
+  colour = vec4(part, 1);
   if (shows_levels) colour = vec4(mix(clamp(colour.rgb, 0.0, 1.0), vec3(1.0 - float(level) / float(count)), 0.7), 1);
 }`;
 
@@ -93,11 +129,15 @@ export function contextOf(canvas) {
   return gl;
 }
 
-/** How many frames fit into one texture. */
+/** The most frames of a screen: a sheet has at most half of the longest side that the device allows, and there are eight. */
 export function mostFrames(gl, tile) {
-  const across = Math.floor(gl.getParameter(gl.MAX_TEXTURE_SIZE) / tile);
-  return Math.min(across * across, 65535);
+  const across = Math.max(Math.floor(gl.getParameter(gl.MAX_TEXTURE_SIZE) / 2 / tile), 1);
+  return Math.min(SHEETS * across * across, 65535);
 }
+
+const noMemory = () => new Trouble('The graphics processor has no memory for more tiles. Open the store with fewer frames (&frames= in the address).', 'memory');
+
+const channelsOf = (colour) => [1, 3, 5].map((at) => parseInt(colour.slice(at, at + 2), 16) / 255);
 
 // The pixels of a block, in an order in which each next few are far from each other.
 const places = (block) => Array.from({ length: block * block }, (_, i) => [i % block, Math.floor(i / block)]).sort((a, b) => order(a) - order(b));
@@ -111,14 +151,13 @@ function order([x, y]) {
 
 export class Screen {
   constructor(gl, store, frames) {
-    Object.assign(this, { gl, store, frames, rowsFor: '' });
-    this.across = Math.ceil(Math.sqrt(frames));
+    Object.assign(this, { gl, store, frames, rowsFor: '', sheets: [] });
+    this.sheetFrames = Math.max(Math.ceil(frames / SHEETS), Math.min(frames, SHEET_FRAMES));
+    this.across = Math.ceil(Math.sqrt(this.sheetFrames));
     this.programs = { draw: this.program(DRAW), feedback: this.program(FEEDBACK) };
     gl.bindVertexArray(gl.createVertexArray());
     gl.pixelStorei(gl.UNPACK_ALIGNMENT, 1);
     this.table = this.texture(0, gl.R32UI, PAGES_A_ROW, Math.ceil(store.pages / PAGES_A_ROW));
-    const { tile } = store, down = Math.ceil(frames / this.across);
-    this.atlas = this.texture(1, store.depth === 1 ? gl.RGB8UI : gl.RGB16UI, this.across * tile, down * tile);
     this.rows = null;
     this.target = gl.createRenderbuffer();
     this.buffer = gl.createFramebuffer();
@@ -155,13 +194,29 @@ export class Screen {
     return made;
   }
 
+  /** How many bytes the sheets have that were made. */
+  get bytes() { return this.sheets.filter(Boolean).length * this.across * Math.ceil(this.sheetFrames / this.across) * this.store.tileBytes; }
+
+  // Makes active the sheet of a frame, and makes it where it is the first one there.
+  sheetOf(frame) {
+    const { gl, store, across, sheets } = this, number = Math.floor(frame / this.sheetFrames), { tile } = store;
+    if (sheets[number]) {
+      gl.activeTexture(gl.TEXTURE0 + FIRST_SHEET + number);
+      return;
+    }
+    while (gl.getError() !== gl.NO_ERROR && !gl.isContextLost());  // what came before is not of this sheet
+    const down = Math.ceil(this.sheetFrames / across);
+    sheets[number] = this.texture(FIRST_SHEET + number, store.depth === 1 ? gl.RGB8UI : gl.RGB16UI, across * tile, down * tile);
+    if (gl.getError() === gl.OUT_OF_MEMORY) throw noMemory();
+  }
+
   /** Uploads a change: a map's tile into its frame and then its entry; of an unmap the entry goes. */
   upload(page, frame, isMap, bytes) {
-    const { gl, store, across } = this, { tile } = store;
+    const { gl, store, across } = this, { tile } = store, place = frame % this.sheetFrames;
     if (isMap) {
       const kind = store.depth === 1 ? gl.UNSIGNED_BYTE : gl.UNSIGNED_SHORT, samples = store.depth === 1 ? bytes : wide(bytes);
-      gl.activeTexture(gl.TEXTURE1);
-      gl.texSubImage2D(gl.TEXTURE_2D, 0, (frame % across) * tile, Math.floor(frame / across) * tile, tile, tile, gl.RGB_INTEGER, kind, samples);
+      this.sheetOf(frame);
+      gl.texSubImage2D(gl.TEXTURE_2D, 0, (place % across) * tile, Math.floor(place / across) * tile, tile, tile, gl.RGB_INTEGER, kind, samples);
     }
     gl.activeTexture(gl.TEXTURE0);
     gl.texSubImage2D(gl.TEXTURE_2D, 0, page % PAGES_A_ROW, Math.floor(page / PAGES_A_ROW), 1, 1, gl.RED_INTEGER, gl.UNSIGNED_INT, Uint32Array.of(isMap ? frame + 1 : 0));
@@ -169,7 +224,7 @@ export class Screen {
 
   // The rows of a view are one small texture.
   setRows(look) {
-    const { gl } = this, { width, height } = gl.canvas, key = JSON.stringify([look.view, width, height, look.rounding]);
+    const { gl } = this, { width, height } = gl.canvas, key = JSON.stringify([look.view, width, height, look.rounding, look.bias]);
     if (this.rowsFor === key) return;
     this.rowsFor = key;
     if (this.rowsHigh !== height) {
@@ -178,7 +233,12 @@ export class Screen {
       this.rowsHigh = height;
     }
     gl.activeTexture(gl.TEXTURE2);
-    gl.texSubImage2D(gl.TEXTURE_2D, 0, 0, 0, 2, height, gl.RGBA, gl.FLOAT, rowsOf(look.view, this.store, width, height, look.rounding));
+    gl.texSubImage2D(gl.TEXTURE_2D, 0, 0, 0, 2, height, gl.RGBA, gl.FLOAT, rowsOf(look.view, this.store, width, height, look.rounding, look.bias));
+  }
+
+  /** The level that the pixels of a row have by their size. */
+  levelOfRow({ view, rounding, bias }, row) {
+    return rowsOf(view, this.store, this.gl.canvas.width, this.gl.canvas.height, rounding, bias)[8 * row + 4];
   }
 
   use({ made, at }, look) {
@@ -195,13 +255,25 @@ export class Screen {
     return at;
   }
 
-  /** Draws a look: { view, rounding, filter, showsLevels, range }; the range has the samples that are black and white. */
+  /** Draws a look: { view, rounding, bias, filter, showsLevels, range, colours, hillshade, beside }. The range has the samples that are black and white;
+   *  `beside` is the colour beside the texture, as three parts of 1. */
   draw(look) {
-    const { gl } = this, at = this.use(this.programs.draw, look);
+    const { gl, store } = this, at = this.use(this.programs.draw, look), ramp = RAMPS[look.colours] ?? RAMPS.grey;
     gl.uniform1i(at.table, 0);
-    gl.uniform1i(at.frames, 1);
+    const made = Math.max(this.sheets.findIndex(Boolean), 0);
+    gl.uniform1iv(at.sheets, Array.from({ length: SHEETS }, (_, i) => FIRST_SHEET + (this.sheets[i] ? i : made)));
     gl.uniform1i(at.across, this.across);
+    gl.uniform1i(at.a_sheet, this.sheetFrames);
     gl.uniform1i(at.shows_levels, look.showsLevels ? 1 : 0);
+    gl.uniform1i(at.is_coloured, look.colours && look.colours !== 'grey' ? 1 : 0);
+    gl.uniform1i(at.is_hill, look.hillshade ? 1 : 0);
+    gl.uniform3fv(at.ramp, Array.from({ length: LONGEST_RAMP }, (_, i) => channelsOf(ramp[Math.min(i, ramp.length - 1)])).flat());
+    gl.uniform1i(at.steps, ramp.length);
+    gl.uniform1f(at.relief, Math.max(store.width, store.height) / RELIEF);
+    gl.uniform3f(at.beside, ...(look.beside ?? BESIDE));
+    const [east, south] = axesOf(look.view);
+    gl.uniform2f(at.east, ...east);
+    gl.uniform2f(at.south, ...south);
     gl.uniform2f(at.range, ...look.range);
     gl.bindFramebuffer(gl.FRAMEBUFFER, null);
     gl.viewport(0, 0, gl.canvas.width, gl.canvas.height);
@@ -261,6 +333,22 @@ export class Screen {
     this.pending = null;
     return ids;
   }
+
+  /** Gives the textures, buffers and programs back. */
+  close() {
+    const { gl } = this;
+    for (const it of [this.table, this.rows, ...this.sheets]) if (it) gl.deleteTexture(it);
+    for (const { made } of Object.values(this.programs)) gl.deleteProgram(made);
+    gl.deleteRenderbuffer(this.target);
+    gl.deleteFramebuffer(this.buffer);
+    gl.deleteBuffer(this.packed);
+  }
+}
+
+// The directions on the ground that are right and down in the picture.
+function axesOf({ mode, turn = 0, c, s }) {
+  if (mode === 'fly') return [[-s, c], [-c, -s]];
+  return [[Math.cos(turn), -Math.sin(turn)], [Math.sin(turn), Math.cos(turn)]];
 }
 
 // Samples of two bytes, the more significant first, as numbers.

@@ -88,10 +88,19 @@ export class WebFile {
   async open(signal) {
     const { answer, limit } = await this.ask({ Range: `bytes=0-${HEAD_BYTES - 1}` }, signal);
     if (answer.status === 200) return this.openWhole(answer, limit);
+    if (answer.status === 416) return this.openEmpty(answer, limit);
     const { total, end } = judged(answer, limit, () => rangeOf(answer, 0)), head = await bytesOf(answer, limit, end);
     [this.length, this.tag] = [total, tagOf(answer)];
     if (this.keep) this.kept = await Kept.open(this.url, this.tag, this.length);
     return head;
+  }
+
+  // A file without bytes has no range.
+  openEmpty(answer, limit) {
+    limit.end();
+    answer.body?.cancel();
+    this.length = 0;
+    return new Uint8Array(0);
   }
 
   // A server without ranges: its one answer is the whole file.
@@ -146,7 +155,7 @@ export class WebFile {
     try {
       const answer = await fetch(this.url, { headers, signal: limit.signal, cache: 'no-store' });
       limit.heard();
-      if (answer.status === 206 || answer.status === 200) return { answer, limit };
+      if (answer.status === 206 || answer.status === 200 || (answer.status === 416 && this.length === null)) return { answer, limit };
       answer.body?.cancel();
       throw this.refusal(answer.status);
     } catch (error) {
@@ -159,7 +168,6 @@ export class WebFile {
   refusal(status) {
     if (status === 429 || status >= 500) return new Failed(`The server of this file is busy (status ${status}).`, 'busy');
     if (this.length !== null && [404, 410, 412, 416].includes(status)) return replaced();
-    if (status === 416) return new Trouble('This file is no store: it is empty.', 'not-store');
     if (status === 404 || status === 410) return new Trouble(`There is no file at ${this.url} (status ${status}).`, 'missing');
     if (status === 401 || status === 403) return new Trouble(`The server refuses to send ${this.url} (status ${status}).`, 'refused');
     return new Trouble(`The server does not send ${this.url} (status ${status}).`, 'status');

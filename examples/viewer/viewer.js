@@ -1,265 +1,349 @@
-// The page: opens the store that the address names, and shows it. `window.viewer` is for the console and for tests.
-import { load, NO_PAGE, VtexError } from './vtex.js';
-import { addressOf, Failed, LocalFile, sentenceOf, tried, Trouble, WebFile } from './source.js';
-import { Link } from './link.js';
-import { mostOf } from './runs.js';
-import { Session } from './session.js';
-import { contextOf, mostFrames, Screen } from './screen.js';
-import { bounded, countMap, fitted, flightOver, lookOf, mapUnder, pathOf, roundingOf, wordsOfLook } from './camera.js';
+// The page: opens the store that the address names, and shows it by the engine. `window.viewer` is the engine, for the console and for tests.
+import { Engine } from './engine.js';
+import { Failed, Trouble } from './errors.js';
+import { addressOf, kindOf, LocalFile, sentenceOf, WebFile } from './source.js';
+import { lookOf, optionsOf, wordsOfLook } from './address.js';
+import { flightsOf, readPath } from './path.js';
+import { notice } from './notices.js';
 import { Panel } from './panel.js';
-import { takeHands } from './hand.js';
+import { north, oneToOne, takeHands } from './hand.js';
 
 const at = (name) => document.getElementById(name);
-const options = new URLSearchParams(location.search);
-const number = (name, or) => (options.has(name) && options.get(name) !== '' ? Number(options.get(name)) : or);
+const words = new URLSearchParams(location.search), { options, flaws } = optionsOf(words), isBare = words.has('bare');
 
-const PICTURES_A_SECOND = 24, PANEL_EVERY = 200, ADDRESS_AFTER = 300, PINNED_BYTES = 300e3;
+const PANEL_EVERY = 200, ADDRESS_AFTER = 300, BAR_PIXELS = 120, VALUE_AFTER = 120;
 
-function say(sentence) {
-  at('trouble').textContent = sentence;
-  at('trouble').hidden = !sentence;
+let engine = null, panel = null, opening = null, offered = null, address = null;
+
+// ---- sentences
+
+const trouble = (sentence, ...buttons) => notice(at('trouble'), sentence, buttons);
+const passing = (sentence) => notice(at('passing'), sentence, [], false);
+const note = (sentence) => notice(at('notes'), sentence, sentence ? [['Close', () => note('')]] : [], false);
+
+const AGAIN = ['missing', 'refused', 'status', 'cors', 'headers', 'ranges', 'unreachable', 'timeout', 'busy', 'broken', 'memory'];
+
+// The sentence of an error that ended the opening or the showing of a store, with what helps.
+function explain(error, source) {
+  const kind = kindOf(error), other = ['Other store', choose], again = () => begin(() => renewed(source));
+  if (kind === 'file' || source instanceof LocalFile) trouble(sentenceOf(error), ['Choose a file', () => { choose(); at('local').click(); }]);
+  else if (kind === 'replaced') trouble(sentenceOf(error), ['Load it anew', again]);
+  else if (AGAIN.includes(kind)) trouble(sentenceOf(error), ['Try again', again], other);
+  else trouble(sentenceOf(error), ...(kind === 'graphics' ? [] : [other]));
 }
 
-export class Viewer {
-  constructor(canvas, session, screen, look) {
-    Object.assign(this, { canvas, session, screen, look, store: session.store });
-    this.block = number('block', 0);
-    this.number = 0;                                       // counts the looks
-    this.heard = -1;                                       // the look that `wanted` is of
-    this.asked = null;                                     // the look and the phase that are read back
-    this.phase = 0;                                        // the next one to be read
-    this.isChanged = true;                                 // a picture is to be drawn
-    this.isScheduled = false;
-    this.isAtWork = false;
-    this.waits = [];
-    this.path = null;
-    this.times = { opened: performance.now(), first: 0, changed: 0, feedback: 0, draws: 0, feedbacks: 0 };
-    this.panel = new Panel(at('panel'), session);
-  }
+// The same file, to be read from its first byte again.
+const renewed = (source) => (source instanceof LocalFile ? new LocalFile(source.file) : new WebFile(source.url));
 
-  // A feedback of a nearest picture has four pixels of a block, one of a bilinear picture the four texels of one.
-  get blockSide() { return this.block || (this.look.filter === 'bilinear' ? 4 : 8); }
+// ---- opening
 
-  get phases() { return this.screen.phases(this.look, this.blockSide); }
-
-  /** Whether each pixel's page is mapped, or has nothing left to come. */
-  get isSharp() {
-    const isHeard = this.look.view.mode === 'map' || this.phase >= this.phases && !this.asked;
-    return this.session.isSettled && this.heard === this.number && isHeard && !this.isChanged;
-  }
-
-  /** Resolves once the picture is sharp, or the showing has ended by some trouble. */
-  sharp() {
-    this.schedule();
-    return new Promise((done) => { this.waits.push(done); });
-  }
-
-  /** Sets some of view, filter, rounding, showsLevels, range. */
-  set(changes) {
-    Object.assign(this.look, changes);
-    this.look.view = bounded(this.look.view, this.store, this.canvas.width, this.canvas.height);
-    this.number++;
-    this.phase = 0;
-    this.isChanged = true;
-    this.noteAddress();
-    this.schedule();
-  }
-
-  /** Shows another view; `isWalk`: a picture of a path, rounded as in `vtex walk`. */
-  move(view, isWalk = false) {
-    if (view.mode !== this.look.view.mode) this.look.rounding = roundingOf(view);
-    this.set({ view: { ...view, isWalk } });
-  }
-
-  fit() { this.move(fitted(this.store, this.canvas.width, this.canvas.height)); }
-
-  changeMode() {
-    const { canvas: { width, height }, look: { view } } = this;
-    this.move(view.mode === 'map' ? flightOver(view, width, height) : mapUnder(view, this.store, width, height));
-  }
-
-  play(path) {
-    this.path = path;
-    this.begun = null;
-    this.schedule();
-  }
-
-  schedule() {
-    if (this.isScheduled) return;
-    this.isScheduled = true;
-    requestAnimationFrame((now) => {
-      this.isScheduled = false;
-      this.tick(now);
-    });
-  }
-
-  tick(now) {
-    if (this.screen.gl.isContextLost()) return;
-    this.resize();
-    this.follow(now);
-    if (this.hear()) this.step(true);
-    if (this.isChanged) this.draw();
-    this.ask();
-    this.after(now);
-  }
-
-  // Something came or may be sent: the link does not wait for the next picture. What comes together is one step.
-  work() {
-    if (this.isAtWork) return;
-    this.isAtWork = true;
-    setTimeout(() => {
-      this.isAtWork = false;
-      if (this.session.link.hasNews && this.heard >= 0 && !this.screen.gl.isContextLost()) this.step();
-      this.schedule();
-    }, 0);
-  }
-
-  step(isNew = false) {
-    if (this.session.step(isNew)) this.isChanged = true;
-  }
-
-  resize() {
-    const { canvas } = this, ratio = devicePixelRatio || 1;
-    const width = Math.max(1, Math.round(canvas.clientWidth * ratio)), height = Math.max(1, Math.round(canvas.clientHeight * ratio));
-    if (canvas.width === width && canvas.height === height) return;
-    Object.assign(canvas, { width, height });
-    this.set({});
-  }
-
-  follow(now) {
-    if (!this.path) return;
-    this.begun ??= now;
-    const i = Math.min(Math.floor((now - this.begun) * PICTURES_A_SECOND / 1000), this.path.length - 1);
-    if (i !== this.shown) this.move(this.path[i], true);
-    this.shown = i;
-    if (i === this.path.length - 1) this.path = this.shown = null;
-  }
-
-  // Takes what the pixels want, and returns whether that is news: of a map at once, of a flight as the feedback is read back, part by part.
-  hear() {
-    const { wanted } = this.session;
-    if (this.look.view.mode === 'map') {
-      if (this.heard === this.number) return false;
-      wanted.clear();
-      countMap(this.look, this.store, this.canvas.width, this.canvas.height, (page, pixels) => wanted.add(page, pixels));
-      this.heard = this.number;
-      return true;
-    }
-    const ids = this.asked && this.screen.seen(), { asked } = this;
-    if (!ids) return false;
-    if (asked.number !== this.heard) wanted.clear();
-    for (const page of ids) if (page !== NO_PAGE) wanted.add(page);
-    this.heard = asked.number;
-    this.times.feedback = performance.now() - asked.begun;
-    this.times.feedbacks++;
-    this.asked = null;
-    return true;
-  }
-
-  ask() {
-    if (this.look.view.mode === 'map' || this.asked || this.phase >= this.phases) return;
-    this.asked = { number: this.number, begun: performance.now() };
-    this.screen.want(this.look, this.blockSide, this.phase++);
-  }
-
-  draw() {
-    this.screen.draw(this.look);
-    this.isChanged = false;
-    this.times.draws++;
-    this.times.changed = performance.now();
-    this.times.first ||= this.times.changed;
-  }
-
-  after(now) {
-    const { link } = this.session;
-    if (link.trouble) say(link.trouble.message);
-    else say(link.problem && link.pause > 1000 ? `${link.problem.message} Trying again.` : '');
-    if (!at('panel').hidden && !(now - this.paneled < PANEL_EVERY)) {
-      this.paneled = now;
-      this.showPanel();
-    }
-    if (this.isSharp || link.trouble) {
-      this.waits.splice(0).forEach((done) => done(this.isSharp));
-      if (!this.path) {
-        if (!at('panel').hidden) this.showPanel();
-        return;
-      }
-    }
-    this.schedule();
-  }
-
-  showPanel() { this.panel.show(this.look.view.mode === 'map' ? null : this.times.feedback); }
-
-  // The address has the view, once it stays for a moment.
-  noteAddress() {
-    clearTimeout(this.noting);
-    this.noting = setTimeout(() => {
-      this.address = '#' + wordsOfLook(this.look);
-      history.replaceState(null, '', this.address);
-    }, ADDRESS_AFTER);
-  }
-}
-
-const sayFailure = (error) => say(`${error.message} Trying again.`);
-
-// Frames for six times the tiles of a screen, since a flight wants finer levels and each page those above it; and as many levels pinned as a few hundred kilobytes hold.
-function sizesOf(store, gl) {
-  const ratio = devicePixelRatio || 1, tiles = (pixels) => pixels * ratio / store.tile + 2;
-  const enough = 2 ** Math.ceil(Math.log2(6 * tiles(Math.max(screen.width, innerWidth)) * tiles(Math.max(screen.height, innerHeight))));
-  let levels = 1;
-  while (levels < store.levels.length && store.pinned(levels + 1) * store.tileBytes <= PINNED_BYTES) levels++;
-  levels = number('pinned', levels);
-  const frames = Math.min(number('frames', Math.min(Math.max(enough, 256), store.pages)), mostFrames(gl, store.tile));
-  return { frames: Math.max(frames, store.pinned(levels)), levels };
-}
-
-async function open(source) {
-  at('choose').hidden = true;
-  say('');
-  const canvas = at('picture'), gl = contextOf(canvas);
-  const [library, head] = await Promise.all([load(import.meta.url, options.get('module') === '32' ? false : undefined), tried(() => source.open(), { heard: sayFailure })]);
-  const store = library.open(head, source.length), sizes = sizesOf(store, gl);
-  let viewer = null;
-  const link = new Link(source, store, { parallel: number('parallel', 6), run: number('run', mostOf(store)), heard: () => viewer?.work() });
-  const screen = new Screen(gl, store, sizes.frames);
-  const session = new Session(store, link, { ...sizes, upload: (...change) => screen.upload(...change) });
-  await tried(() => session.pin(), { heard: sayFailure });
-  say('');
-  const most = store.depth === 1 ? 255 : 65535, ratio = devicePixelRatio || 1;
-  Object.assign(canvas, { width: Math.round(canvas.clientWidth * ratio), height: Math.round(canvas.clientHeight * ratio) });
-  viewer = new Viewer(canvas, session, screen, { ...lookOf(location.hash, fitted(store, canvas.width, canvas.height)), showsLevels: false, range: [0, most] });
-  window.viewer = viewer;
-  takeHands(viewer, at);
-  at('panel').hidden = options.has('bare') || innerWidth < 700;
-  at('tools').hidden = options.has('bare');
-  if (options.has('path')) await offerPath(viewer, new URL(options.get('path'), location.href));
-  viewer.schedule();
-  document.title = `${source.name} – vtex`;
-  return viewer;
-}
-
-async function offerPath(viewer, url) {
-  const answer = await fetch(url);
-  if (!answer.ok) throw new Trouble(`There is no path to be had at ${url} (status ${answer.status}).`);
-  viewer.offered = pathOf(await answer.text());
-  at('play').hidden = false;
-}
-
+/** Opens a store, in place of the one that is shown. Resolves to its engine, or to null where the page has a sentence. */
 function begin(sourceOf) {
-  return Promise.resolve().then(() => open(sourceOf())).catch((error) => {
-    say(sentenceOf(error));
-    if (!(error instanceof Trouble || error instanceof Failed || error instanceof VtexError)) throw error;
+  window.ready = open(sourceOf);
+  return window.ready;
+}
+
+async function open(sourceOf) {
+  let source = null, isRead = [];
+  opening?.abort();
+  opening = new AbortController();
+  const mine = opening, { signal } = mine, look = engine?.look && engine.look;
+  try {
+    source = sourceOf();
+    const isSame = engine !== null && engine.source.url === source.url;
+    if (engine) engine.destroy();
+    engine = window.viewer = panel = null;
+    at('choose').hidden = true;
+    trouble('');
+    passing('');
+    const made = await Engine.open(at('picture'), source, {
+      ...options, signal, heard: (error) => passing(`${error.message} Trying again.`),
+      look: (usual, store) => {
+        if (isSame && look) return { ...look };
+        const its = lookOf(location.hash, usual, store.depth);
+        isRead = its.flaws;
+        return its.look;
+      },
+    });
+    if (signal.aborted) {
+      made.destroy();
+      return null;
+    }
+    show(made);
+    note([...flaws, ...isRead].join(' '));
+    if (words.has('path') && offered === null) await fetchPath(words.get('path'));
+    return made;
+  } catch (error) {
+    if (mine !== opening || signal.aborted) return null;
+    passing('');
+    if (!source || source instanceof LocalFile) choose();
+    explain(error, source);
+    if (!(error instanceof Trouble || error instanceof Failed)) throw error;
     return null;
+  }
+}
+
+// Binds the page to an engine that has opened.
+function show(made) {
+  engine = window.viewer = made;
+  const { store, source } = engine;
+  panel = new Panel(at('panel'), engine.session);
+  passing('');
+  engine.addEventListener('look', () => {
+    noteAddress();
+    showState();
+  });
+  engine.addEventListener('draw', () => {
+    showPanel(true);
+    showBar();
+  });
+  engine.addEventListener('sharp', () => showPanel());
+  engine.addEventListener('problem', ({ detail }) => passing(detail ? `${detail.message} Trying again.` : ''));
+  engine.addEventListener('error', ({ detail }) => explain(detail, source));
+  document.title = `${source.name} – vtex`;
+  at('heights').hidden = store.depth === 1;
+  at('tools').hidden = at('read').hidden = isBare;
+  if (!panel.wasShown && !isBare) togglePanel(innerWidth >= 700 && innerHeight >= 500);
+  at('player').href = source instanceof LocalFile ? 'player.html' : `player.html?store=${encodeURIComponent(words.get('store') ?? source.url)}`;
+  showState();
+  if (document.activeElement === document.body || document.activeElement === null) at('picture').focus({ preventScroll: true });
+}
+
+// ---- paths
+
+async function fetchPath(name) {
+  try {
+    const source = new WebFile(addressOf(name, location.href), { keep: false });
+    offer(await source.whole());
+  } catch (error) {
+    note(`The path ${name} cannot be played. ${sentenceOf(error)}`);
+  }
+}
+
+function offer(bytes) {
+  const path = flightsOf(readPath(bytes));
+  if (path.length === 0) throw new Trouble('It has no key, so there is nothing to play.', 'path');
+  [offered, stopped] = [path, 0];
+  showState();
+}
+
+let stopped = 0;                                           // the picture at which the path was stopped
+function playOrStop() {
+  if (!engine || !offered) return;
+  if (engine.path) {
+    stopped = engine.shown ?? 0;
+    engine.path = null;
+  } else {
+    engine.play(offered, stopped);
+    stopped = 0;
+  }
+  showState();
+}
+
+async function playFile(file) {
+  try {
+    offer(new Uint8Array(await file.arrayBuffer()));
+    note('');
+    engine?.play(offered);
+    showState();
+  } catch (error) {
+    note(`The path ${file.name} cannot be played. ${sentenceOf(error)}`);
+  }
+}
+
+// ---- what the page shows of the engine
+
+function showState() {
+  const { look, store } = engine, isMap = look.view.mode === 'map';
+  at('mode').textContent = isMap ? 'Flight' : 'Map';
+  at('north').hidden = !look.view.turn;
+  at('filter').value = look.filter;
+  at('rounding').value = look.rounding;
+  at('tint').checked = look.showsLevels;
+  at('colours').value = look.colours;
+  at('hillshade').checked = look.hillshade;
+  if (store.depth === 2) ['black', 'white'].forEach((name, i) => { if (document.activeElement !== at(name)) at(name).value = look.range[i]; });
+  at('play').hidden = !offered;
+  at('play').textContent = engine.path ? 'Stop' : 'Play';
+  at('one').setAttribute('aria-pressed', isMap && look.view.scale === 1);
+}
+
+let paneled = 0;
+function showPanel(isOften = false) {
+  const now = performance.now();
+  if (!engine?.look || at('panel').hidden || (isOften && now - paneled < PANEL_EVERY)) return;
+  paneled = now;
+  panel.show(engine.look.view.mode === 'map' && !engine.look.view.turn ? null : engine.times.feedback);
+}
+
+function togglePanel(isOpen = at('panel').hidden) {
+  at('panel').hidden = !isOpen;
+  at('more').setAttribute('aria-expanded', isOpen);
+  showPanel();
+}
+
+// A bar of 1, 2 or 5 times a power of ten texels, for maps.
+function showBar() {
+  const texels = engine.texelsAPixel;
+  at('bar').hidden = texels === null;
+  if (texels === null) return;
+  const most = texels * BAR_PIXELS, ten = 10 ** Math.floor(Math.log10(most)), length = [5, 2, 1].find((it) => it * ten <= most) * ten;
+  at('bar').firstElementChild.style.width = `${length / texels}px`;
+  const text = `${length >= 1 ? length.toLocaleString('en') : Number(length.toPrecision(1))} texel${length === 1 ? '' : 's'}`;
+  if (at('length').textContent !== text) at('length').textContent = text;
+}
+
+let pointer = null, valuing = 0;
+function showValue(event) {
+  pointer = event && { x: event.offsetX, y: event.offsetY };
+  const place = pointer && engine?.look && engine.texelAt(pointer.x, pointer.y);
+  clearTimeout(valuing);
+  at('value').textContent = place ? `texel ${Math.floor(place[0])}, ${Math.floor(place[1])}` : '';
+  if (!place) return;
+  const of = engine, its = pointer;
+  valuing = setTimeout(async () => {
+    const value = await of.valueAt(its.x, its.y).catch(() => null);
+    if (value && of === engine && its === pointer) at('value').textContent = `texel ${value.u}, ${value.v} · level ${value.level}${value.level === value.wanted ? '' : ` (of ${value.wanted})`} · ${value.samples.join(' ')}`;
+  }, VALUE_AFTER);
+}
+
+// The address has what is seen, once it stays for a moment.
+let noting = 0;
+function noteAddress() {
+  clearTimeout(noting);
+  const its = engine;
+  noting = setTimeout(() => {
+    if (its !== engine) return;
+    address = '#' + wordsOfLook(engine.look, engine.usual);
+    history.replaceState(null, '', address);
+  }, ADDRESS_AFTER);
+}
+
+// ---- choosing
+
+function choose() {
+  at('choose').hidden = false;
+  at('back').hidden = !engine?.look;
+  listStores();
+}
+
+async function listStores() {
+  const answer = await fetch('stores.json').catch(() => null);
+  const list = answer?.ok && /json/.test(answer.headers.get('Content-Type') ?? '') ? (await answer.json().catch(() => ({}))).stores ?? [] : [];
+  at('listed').hidden = list.length === 0;
+  at('stores').replaceChildren(...list.map(({ name, address: its, width, height, depth }) => {
+    const item = document.createElement('li'), link = document.createElement('a');
+    link.href = `?store=${encodeURIComponent(its).replaceAll('%2F', '/')}`;
+    link.textContent = name;
+    item.append(link, ` ${width} × ${height}${depth === 2 ? ', two bytes a sample' : ''}`);
+    return item;
+  }));
+}
+
+// A file is a path by how it begins, else a store.
+async function take(file) {
+  const begins = await file.slice(0, 5).text().catch(() => '');
+  if (begins === 'size ') await playFile(file);
+  else await begin(() => new LocalFile(file));
+}
+
+function download(blob, name) {
+  const link = document.createElement('a');
+  link.href = URL.createObjectURL(blob);
+  link.download = name;
+  link.click();
+  setTimeout(() => URL.revokeObjectURL(link.href), 10000);
+}
+
+async function save(make, ending) {
+  try {
+    const name = engine.source.name.replace(/\.vts$/, '');
+    download(await make(), `${name}${ending}.png`);
+    passing('');
+  } catch (error) {
+    note(sentenceOf(error));
+  }
+}
+
+// ---- hands
+
+takeHands(at('picture'), () => engine, { p: () => togglePanel(), ' ': playOrStop, '?': () => at('keys').showModal() });
+
+const on = (name, kind, does) => at(name).addEventListener(kind, (event) => { if (engine?.look) does(event.target); });
+on('fit', 'click', () => engine.fit());
+on('one', 'click', () => oneToOne(engine));
+on('mode', 'click', () => engine.changeMode());
+on('north', 'click', () => north(engine));
+on('filter', 'change', ({ value }) => engine.set({ filter: value }));
+on('rounding', 'change', ({ value }) => engine.set({ rounding: value }));
+on('tint', 'change', ({ checked }) => engine.set({ showsLevels: checked }));
+on('colours', 'change', ({ value }) => engine.set({ colours: value }));
+on('hillshade', 'change', ({ checked }) => engine.set({ hillshade: checked }));
+on('auto', 'click', () => engine.set({ range: [...engine.usual.range] }));
+for (const name of ['black', 'white']) {
+  on(name, 'input', () => {
+    const range = [at('black').valueAsNumber, at('white').valueAsNumber];
+    if (range.every(Number.isInteger) && range[0] >= 0 && range[0] < range[1] && range[1] <= 65535) engine.set({ range });
   });
 }
-
-at('picture').addEventListener('webglcontextlost', (event) => {
-  event.preventDefault();
-  say('The graphics processor was taken away. The page goes on once it is back.');
+on('play', 'click', playOrStop);
+on('more', 'click', () => togglePanel());
+on('less', 'click', () => { togglePanel(false); at('more').focus(); });
+on('save', 'click', () => save(() => engine.picture(), '-picture'));
+on('save-region', 'click', () => save(() => engine.regionPicture(engine.region, (part) => passing(part < 1 ? `Reading the region: ${Math.round(100 * part)} %.` : '')), '-region'));
+at('full').hidden = !document.fullscreenEnabled;
+on('full', 'click', () => (document.fullscreenElement ? document.exitFullscreen() : document.documentElement.requestFullscreen()).catch(() => {}));
+addEventListener('fullscreenchange', () => { at('full').textContent = document.fullscreenElement ? 'Leave full screen' : 'Full screen'; });
+at('help').addEventListener('click', () => at('keys').showModal());
+at('other').addEventListener('click', choose);
+at('back').addEventListener('click', () => { at('choose').hidden = true; });
+at('path').addEventListener('change', ({ target }) => { if (target.files[0]) playFile(target.files[0]); });
+at('local').addEventListener('change', ({ target }) => {
+  const [file] = target.files;
+  target.value = '';
+  if (file) take(file);
 });
-at('picture').addEventListener('webglcontextrestored', () => location.reload());
-at('local').addEventListener('change', ({ target }) => { if (target.files[0]) window.ready = begin(() => new LocalFile(target.files[0])); });
+at('picture').addEventListener('pointermove', showValue);
+at('picture').addEventListener('pointerleave', () => showValue(null));
+at('theme').addEventListener('change', ({ target }) => setTheme(target.value));
 
-const name = options.get('store');
-if (name) window.ready = begin(() => new WebFile(addressOf(name, location.href)));
-else at('choose').hidden = false;
+function setTheme(name) {
+  if (name) document.documentElement.dataset.theme = name;
+  else delete document.documentElement.dataset.theme;
+  try {
+    localStorage.setItem('vtex-theme', name);
+  } catch {
+    // A page without storage has the theme until it is closed.
+  }
+}
+
+let inside = 0;
+addEventListener('dragenter', () => document.body.classList.toggle('dropping', ++inside > 0));
+addEventListener('dragleave', () => document.body.classList.toggle('dropping', --inside > 0));
+addEventListener('dragover', (event) => event.preventDefault());
+addEventListener('drop', (event) => {
+  event.preventDefault();
+  document.body.classList.toggle('dropping', (inside = 0) > 0);
+  const [file] = event.dataTransfer.files;
+  if (file) take(file);
+});
+addEventListener('hashchange', () => {
+  if (!engine?.look || location.hash === address) return;
+  const { look, flaws: wrong } = lookOf(location.hash, { ...engine.usual, view: engine.look.view }, engine.store.depth);
+  engine.set(look);
+  note(wrong.join(' '));
+});
+// A graphics processor that comes back has lost all tiles: the store is opened again, also one of this computer.
+at('picture').addEventListener('webglcontextrestored', () => { if (engine) begin(() => renewed(engine.source)); });
+
+// ---- the start
+
+at('early').remove();
+try {
+  at('theme').value = localStorage.getItem('vtex-theme') ?? '';
+  if (at('theme').value) document.documentElement.dataset.theme = at('theme').value;
+} catch {
+  // Without storage the theme is the system's.
+}
+if (words.get('store')) begin(() => new WebFile(addressOf(words.get('store'), location.href)));
+else choose();

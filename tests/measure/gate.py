@@ -8,7 +8,7 @@
                                                take less than a fortieth stand in one row, and with `all` behind the logs in their own.
                                                Below it stand the crates whose edits are more than their proof allows. Of several logs
                                                the first is a whole gate, and what a later one did again counts in place of what it was
-    python3 tests/measure/gate.py page LOG..   puts what `table LOG..` prints into docs/PROVING.md, in place of what stands there
+    python3 tests/measure/gate.py page LOG..   puts what `table LOG..` prints into tests/measure/history.md, in place of what stands there
 
 Nothing else is to be at work on the machine. The checks are watched twice a second, so a figure may lack half a second. The check of
 a crate's first must-fail edit proves the whole crate a second time: of its time what is above the mean of the other edits counts as
@@ -37,7 +37,7 @@ EVEN = MINUTES * 60 * 4 / LIMIT
 # A crate whose own proof takes more seconds than this on such a machine has at most so many must-fail edits.
 LONG, FEW = 60, 2
 # Where the page has the table: from its head to the end of the lines on the longest chain.
-PAGE, PLACE = f"{TOP}/docs/PROVING.md", re.compile(r"^\| crate \| proof .*?^The longest chain takes .*?\n(?=\n)", re.DOTALL | re.MULTILINE)
+PAGE, PLACE = f"{TOP}/tests/measure/history.md", re.compile(r"^\| crate \| proof .*?^The longest chain takes .*?\n(?=\n)", re.DOTALL | re.MULTILINE)
 
 
 def processes():

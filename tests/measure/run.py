@@ -1,5 +1,5 @@
 #!/usr/bin/env python3
-"""Measures the program's commands over growing inputs and prints the tables of docs/PERFORMANCE.md and history.md; by hand, on a machine that does nothing else.
+"""Measures the program's commands over growing inputs and prints the tables of history.md; by hand, on a machine that does nothing else.
 
 usage: run.py [PROGRAM] [--sweeps tile,walk-batch,..] [--rounds 5] [--most 8192] [--beside OTHER] [--words 'tile: --threads 1']..
        run.py [PROGRAM] --summary [--rounds 9] [--beside OTHER]

@@ -20,7 +20,7 @@ class Look:
     def __init__(self, store, width, height, view, table=None, is_bilinear=False):
         g = store.geometry
         self.store, self.width, self.height, self.table, self.is_bilinear = store, width, height, table, is_bilinear
-        self.u, self.v, self.scale = view or (g.width / 2, g.height / 2, max(g.width / width, g.height / height))
+        self.u, self.v, self.scale = view or (g.width / 2, g.height / 2, min(max(g.width / width, g.height / height), min(g.width, g.height) / 2))
         self.level = min(max(math.floor(math.log2(self.scale) + 0.5), 0), len(g.levels) - 1)
 
     def place(self, x, y):
@@ -76,6 +76,13 @@ def flight_differs(rows, store, path, picture):
         for pixel, (page, level, column, line) in zip(row, row_shown(g, path, picture, y, None)):
             count += list(pixel) != texel_shown(store, level, column >> level, line >> level, None)
     return count / (path.width * path.height)
+
+
+def shown(page, look):
+    """The picture that the page draws, once it is sharp: rows from the top, three bytes a pixel."""
+    data, row = page.pixels("viewer.screen.pixels(viewer.look)"), 4 * look.width
+    rows = [data[at : at + row] for at in range(0, len(data), row)][::-1]
+    return [[bytes(row[4 * x : 4 * x + 3]) for x in range(look.width)] for row in rows]
 
 
 def mapped_of(page):

@@ -1,4 +1,4 @@
-"""Holds the viewer's WebAssembly modules against a fresh build and against the library for C. Wants rt, gcc and node; wasm-opt for the second module."""
+"""Holds the viewer's WebAssembly modules against the library for C, their JavaScript against wrong use, and both against a fresh build."""
 import os
 import shutil
 import subprocess
@@ -6,67 +6,57 @@ import sys
 import tempfile
 
 HERE = os.path.dirname(os.path.abspath(__file__))
-TOP = os.path.dirname(os.path.dirname(HERE))
+TESTS = os.path.dirname(HERE)
+TOP = os.path.dirname(TESTS)
 VIEWER = os.path.join(TOP, "examples", "viewer")
-INCLUDE = os.path.join(TOP, "include")
-LIBRARY = os.path.join(TOP, "crates", "vtex_c", "out", "libvtex_c.a")
-sys.path.insert(0, VIEWER)
-import build  # noqa: E402
+MODULES = ("vtex.wasm", "vtex32.wasm")
+sys.path.insert(0, TESTS)
+import artefacts  # noqa: E402
 
 RUNS, PASSES = 300, 30
-# What vtex.h includes, for a target without a C library.
-HEADERS = {
-    "stddef.h": "#define NULL 0\ntypedef unsigned long size_t;\n",
-    "stdint.h": "typedef unsigned char uint8_t;\ntypedef unsigned uint32_t;\ntypedef int int32_t;\ntypedef unsigned long uint64_t;\n#define UINT32_MAX 4294967295u\n",
-}
+FLAG = "--experimental-wasm-memory64"
 
 
-def missing():
-    """What is not installed here, or None."""
-    return next((name for name in ("rt", "gcc", "node") if shutil.which(name) is None), None)
+def node_words():
+    """How node is called, with 64-bit memories where it has them; and whether it has them."""
+    has = "WebAssembly.validate(new Uint8Array([0, 97, 115, 109, 1, 0, 0, 0, 5, 3, 1, 4, 1])) || process.exit(1)"
+    for words in (["node"], ["node", FLAG]):
+        ran = subprocess.run([*words, "-e", has], stdout=subprocess.DEVNULL, stderr=subprocess.DEVNULL)
+        if ran.returncode == 0:
+            return words, True
+    return ["node"], False
 
 
-def contents(name):
-    with open(name, "rb") as file:
-        return file.read()
-
-
-def node_flags():
-    flag = "--experimental-wasm-memory64"
-    ran = subprocess.run(["node", flag, "-e", "0"], stdout=subprocess.DEVNULL, stderr=subprocess.DEVNULL)
-    return [] if ran.returncode else [flag]
-
-
-def trial_modules(kit, objects, room):
-    """trial.c as WebAssembly, over the objects of vtex.wasm; and its form for 32-bit memories, where wasm-opt is here."""
-    clang, headers = os.path.join(kit, "toolchain", "bin", "clang"), os.path.join(room, "headers")
-    os.mkdir(headers)
-    for name, text in HEADERS.items():
-        with open(os.path.join(headers, name), "w") as file:
-            file.write(text)
-    made = [os.path.join(room, name) for name in ("trial.o", "trial.wasm", "trial32.wasm")]
-    build.run(clang, *build.TARGET, "-fno-builtin", "-nostdinc", "-I" + headers, "-I" + INCLUDE, "-c", os.path.join(HERE, "trial.c"), "-o", made[0])
-    exports = ["--export=" + name for name in ["trial", "cost"] + build.OWN]
-    build.link(clang, made[1], [*objects, made[0]], exports, stack=1048576)
-    return made[1:] if build.lowered(made[1], made[2]) else made[1:2]
-
-
-def check(say):
-    """`say` takes whether something holds, and what."""
-    kit = build.kit()
+def check_node(say, leave_out):
+    """`say` takes whether something holds, and what; `leave_out` what is not tried and why. Needs node; gcc and the library for C for the second part."""
+    node, has_64 = node_words()
+    ran = subprocess.run([*node, os.path.join(TESTS, "vtex_module.mjs")], stdout=subprocess.PIPE, stderr=subprocess.STDOUT, text=True)
+    lines = ran.stdout.splitlines()
+    for line in lines[:-1]:
+        print(line)
+    say(ran.returncode == 0, "vtex.js refuses wrong use, and its geometry is right: %s" % (lines or ["nothing printed"])[-1])
+    if not has_64:
+        leave_out("vtex.wasm, since this node has no 64-bit memories")
+    if shutil.which("gcc") is None or artefacts.library() is None:
+        return leave_out("the modules beside the library for C, since %s" % ("gcc is not installed" if artefacts.library() else "there is no library in dist/ or crates/vtex_c/out"))
     with tempfile.TemporaryDirectory(prefix="vtex-trial-") as room:
-        objects = build.make(kit, room, room)
-        for name in ("vtex.wasm", "vtex32.wasm"):
-            fresh, kept = os.path.join(room, name), os.path.join(VIEWER, name)
-            if os.path.exists(fresh):
-                say(os.path.exists(kept) and contents(fresh) == contents(kept), "%s is that of a fresh build (else: examples/viewer/build.py)" % name)
         program = os.path.join(room, "trial")
-        archives = [LIBRARY, os.path.join(kit, "c", "liblibc_c.a")]
-        build.run("gcc", "-O2", "-I" + INCLUDE, os.path.join(HERE, "trial.c"), *archives, "-pthread", "-o", program)
+        words = ["gcc", "-O2", "-I" + os.path.join(TOP, "include"), os.path.join(HERE, "trial.c"), *artefacts.library_words(room), "-pthread", "-o", program]
+        subprocess.run(words, check=True)
         native = subprocess.run([program, str(RUNS), str(PASSES)], stdout=subprocess.PIPE, stderr=subprocess.PIPE, text=True, check=True)
         print("library for C: " + native.stderr.strip())
-        for name in trial_modules(kit, objects, room):
-            words = ["node", *node_flags(), os.path.join(HERE, "trial.mjs"), name, str(RUNS), str(PASSES)]
+        for name in MODULES if has_64 else MODULES[1:]:
+            words = [*node, os.path.join(HERE, "trial.mjs"), os.path.join(VIEWER, name), str(RUNS), str(PASSES)]
             ran = subprocess.run(words, stdout=subprocess.PIPE, stderr=subprocess.PIPE, text=True)
-            print("%s: %s" % (os.path.basename(name), ran.stderr.strip()))
-            say(ran.stdout == native.stdout + "held 0\n", "%d runs of %d passes answer as the library for C does, and give all memory back: %s" % (RUNS, PASSES, os.path.basename(name)))
+            print("%s: %s" % (name, ran.stderr.strip()))
+            same = ran.stdout == native.stdout + "held 0\n"
+            say(same, "%d runs of %d passes are those of the library for C, and give all memory back: %s" % (RUNS, PASSES, name))
+
+
+def check_build(say, leave_out):
+    """Whether the modules are those of a fresh build. Needs rt, and wasm-opt for the second."""
+    ran = subprocess.run([sys.executable, os.path.join(VIEWER, "build.py"), "--check"], stdout=subprocess.PIPE, stderr=subprocess.STDOUT, text=True)
+    lines = ran.stdout.strip().splitlines() or ["build.py printed nothing"]
+    if ran.returncode == 2:
+        return leave_out(lines[-1])
+    return say(ran.returncode == 0, lines[-1])

@@ -1,15 +1,10 @@
-// Random runs of calls of include/vtex.h; what is answered goes into a hash. One source for the library for C and for WebAssembly.
+// Random runs of calls of include/vtex.h by the library for C; what they return goes into a hash. trial.mjs makes the same runs by a WebAssembly module.
 //
 // usage: trial RUNS PASSES
 #include "vtex.h"
-#ifdef __wasm__
-void *vtex_malloc(size_t);
-void vtex_free(void *);
-#define malloc(n) vtex_malloc(n)
-#define free(p) vtex_free(p)
-#else
+#include <stdio.h>
 #include <stdlib.h>
-#endif
+#include <time.h>
 
 enum { LIST = 4096, LOADS = 65536 };
 
@@ -100,7 +95,7 @@ static void ask(const Run *run) {
     }
 }
 
-uint64_t trial(uint32_t seed, uint32_t passes) {
+static uint64_t trial(uint32_t seed, uint32_t passes) {
     Run run = {0};
     state = seed * 0x9e3779b97f4a7c15ull + 1;
     hash = 0;
@@ -125,7 +120,7 @@ uint64_t trial(uint32_t seed, uint32_t passes) {
 }
 
 // So many passes over one list of page indexes, with nothing to load after the first: the cost of a picture's feedback.
-uint32_t cost(const vtex_shape *shape, uint32_t frames, const uint32_t *list, uint32_t n, uint32_t passes) {
+static uint32_t cost(const vtex_shape *shape, uint32_t frames, const uint32_t *list, uint32_t n, uint32_t passes) {
     uint32_t pinned = 0, sum = 0;
     vtex_pinned_count(shape, 1, &pinned);
     vtex_cache *cache = malloc(vtex_cache_size());
@@ -143,10 +138,6 @@ uint32_t cost(const vtex_shape *shape, uint32_t frames, const uint32_t *list, ui
     free(cache), free(states);
     return sum + 1;
 }
-
-#ifndef __wasm__
-#include <stdio.h>
-#include <time.h>
 
 static double now(void) {
     struct timespec t;
@@ -168,4 +159,3 @@ int main(int count, char **words) {
     cost(&shape, 1024, list, n, 201);
     fprintf(stderr, "a pass over %u page ids: %.3f ms\n", n, (now() - begun - one) / 200);
 }
-#endif
