@@ -1,25 +1,25 @@
 /* The page cache for engines in C and C++.
  *
  * A texture with its mip chain is cut into pages, each of which has a tile in a store. The cache
- * says which pages have one of F frames, which pages to load next and into which frames, and which
+ * knows which pages have one of F frames, which pages to load next and into which frames, and which
  * frame shows what. It reads no file, starts no thread and draws nothing: the engine reads the
  * tiles and uploads them. Pages are numbered from level 0 on, and in a level row by row, so the
  * root is the last.
  *
- * Every call answers at once. Those on shapes and stores use no memory but what they are given,
+ * Every call returns at once. Those on shapes and stores use no memory but what they are given,
  * and may be made from any thread at any time. Those that take a cache are for one thread at a
  * time; a cache may be handed to another thread under a lock. Memory is taken (by malloc and
  * realloc) only in vtex_cache_open, the three passes and vtex_cache_settle, and given back (by
  * free) there and in vtex_cache_close.
  *
- * Each number is tested. Most calls answer a status: VTEX_DONE only where each number was inside
+ * Each number is tested. Most calls return a status: VTEX_DONE only where each number was inside
  * its bounds, and another one leaves what the call was to write as it was. What cannot be tested,
  * C upholds: a pointer is that of such an object, a length is the true one, what a call writes is
  * no other argument's memory, and the place of a cache is aligned and stays where it is from
  * vtex_cache_init to vtex_cache_close. A length of 0 may come with any pointer, also NULL
  * (tested).
  *
- * `const` says that a call changes nothing, and not that two threads may make it at once.
+ * `const` means that a call changes nothing, not that two threads may make it at once.
  *
  * A tile has its texels row by row from the top, the samples of a texel red, green, blue, and of
  * two bytes the more significant first. Where a level ends within a tile, its last column and row
@@ -80,7 +80,7 @@ static inline const char *vtex_status_text(uint32_t status) {
 /* What stands for no page. */
 #define VTEX_NO_PAGE UINT32_MAX
 
-/* What became of a load, for vtex_cache_settle. Any other number says that it was lost. */
+/* What became of a load, for vtex_cache_settle. Any other number means lost. */
 enum { VTEX_CAME = 0, VTEX_LOST = 1, VTEX_UNDER_WAY = 2 };
 
 /* The sides of a texture, from 1 to 16384 texels, and of a tile, a power of two from 2 to 128. A
@@ -131,8 +131,8 @@ uint32_t vtex_page_name(const vtex_shape *shape, uint32_t page, vtex_name *name)
 uint32_t vtex_page_at(const vtex_shape *shape, const vtex_name *name, uint32_t *page);
 /* The page of the next coarser level over a page's place; VTEX_NO_PAGE for the root. */
 uint32_t vtex_parent(const vtex_shape *shape, uint32_t page, uint32_t *parent);
-/* How many pages the last so many levels have, or all levels where there are fewer. They are the
- * last so many indexes. */
+/* How many pages the last `levels` levels have, or all levels where there are fewer. Their indexes
+ * are the last of the chain. */
 uint32_t vtex_pinned_count(const vtex_shape *shape, uint32_t levels, uint32_t *pages);
 
 /* ---- a store, which the engine reads itself */
@@ -224,7 +224,8 @@ uint32_t vtex_cache_table(const vtex_cache *at, uint32_t level, uint32_t *out, s
 /* The numbers of the cache: VTEX_DONE, VTEX_CLOSED. */
 uint32_t vtex_cache_info(const vtex_cache *at, vtex_info *told);
 
-/* Gives all memory back: VTEX_DONE. The place may then be forgotten, or the cache opened again. */
+/* Gives all memory back (tested): VTEX_DONE. The place may then be forgotten, or the cache opened
+ * again. */
 uint32_t vtex_cache_close(vtex_cache *at);
 
 /* ---- a shared table: one thread changes the page table and fills frames, others look pages up
@@ -232,14 +233,14 @@ uint32_t vtex_cache_close(vtex_cache *at);
  *
  * A table has versions: version 0 maps nothing, and each vtex_table_map and vtex_table_unmap makes
  * the next one. A reader takes hold of the newest version and reads in it until it releases it.
- * What a held version maps stays as it is; a call that would write over it answers VTEX_WAITING,
+ * What a held version maps stays as it is; a call that would write over it returns VTEX_WAITING,
  * changes nothing that a reader sees, and is made again later. No call of a reader waits, loops
  * for others or takes memory.
  *
  * The calls on a table are for one thread at a time, those on a reader for one thread at a time,
  * and all of them may run at once. A place passes to another thread by what orders the two: a
  * lock, a thread's start or join, a seq_cst atomic. It stays where it is from init to close or
- * dismiss. Memory is taken in vtex_table_open alone, so a table that is open goes on for any
+ * dismiss. Only vtex_table_open may be refused memory, so a table that is open goes on for any
  * number of versions, up to 2^62. */
 
 /* A place of level 0, and the level at which it is wanted. */
@@ -278,17 +279,17 @@ void vtex_reader_init(vtex_reader *at);
 uint32_t vtex_table_open(vtex_table *at, const vtex_shape *shape, uint32_t depth, uint32_t frames,
     uint32_t readers);
 /* Fills a frame that no page has with the tile of an unmapped page, as a store has it, and maps
- * the page to it in the next version. Takes no memory. VTEX_DONE, VTEX_BAD_NUMBER, VTEX_CLOSED, or
- * VTEX_WAITING where a reader may hold a version that maps the frame, or one more than two before
- * the newest: `waiting` then says which. */
+ * the page to it in the next version. Never refused memory. VTEX_DONE, VTEX_BAD_NUMBER,
+ * VTEX_CLOSED, or VTEX_WAITING where a reader may hold a version that maps the frame, or one more
+ * than two before the newest: `waiting` then names it. */
 uint32_t vtex_table_map(vtex_table *at, uint32_t page, uint32_t frame, const uint8_t *tile,
     size_t bytes, vtex_waiting *waiting);
-/* Takes a mapped page, but not the root, out of its frame in the next version. Takes no memory.
- * Answers as vtex_table_map. */
+/* Takes a mapped page, but not the root, out of its frame in the next version. Never refused
+ * memory. Returns as vtex_table_map. */
 uint32_t vtex_table_unmap(vtex_table *at, uint32_t page, vtex_waiting *waiting);
 /* Makes steps in their order, each in the next version, until one cannot be made at once. `tiles`
  * has whole tiles one after the other, in any order. `made` is the number of steps that were made,
- * so the rest is `steps + made`. Takes no memory. VTEX_DONE where all were made; VTEX_WAITING
+ * so the rest is `steps + made`. Never refused memory. VTEX_DONE where all were made; VTEX_WAITING
  * where the next one waits as in vtex_table_map, for whom `waiting` says; VTEX_BAD_NUMBER where
  * the next one can never be made as the table is: its page, frame or tile is none, the page of a
  * map is mapped or its frame is not free, the page of an unmap is the root or is not in that
@@ -296,12 +297,13 @@ uint32_t vtex_table_unmap(vtex_table *at, uint32_t page, vtex_waiting *waiting);
 uint32_t vtex_table_settle(vtex_table *at, const vtex_step *steps, size_t count,
     const uint8_t *tiles, size_t bytes, uint64_t *made,
     vtex_waiting *waiting);
-/* Opens a closed reader, where the root is mapped and fewer than `readers` are open. It is a call
- * on the table, so the writer's thread makes it, or another under the same lock. Takes no memory,
- * and answers VTEX_NO_MEMORY only past 2^63 readers. VTEX_DONE; VTEX_BAD_ORDER where the reader is
- * open, or the root is not mapped yet; VTEX_NO_SEAT; VTEX_CLOSED. Readers whose announcements lie
- * on cache lines of their own are the fastest: a table opened for 64 readers has eight such seats,
- * and gives them out first. */
+/* Opens a closed reader, where the root is mapped and fewer than `readers` are open; it has one of
+ * the seats until it is dismissed. It is a call on the table, so the writer's thread makes it, or
+ * another under the same lock. VTEX_DONE; VTEX_BAD_ORDER where the reader is open, or the root is
+ * not mapped yet; VTEX_NO_SEAT; VTEX_CLOSED; VTEX_NO_MEMORY only where it could have been opened,
+ * which this implementation gives past 2^63 readers. Readers whose announcements lie on cache
+ * lines of their own are the fastest: a table opened for 64 readers has eight such seats, and
+ * gives them out first. */
 uint32_t vtex_table_admit(vtex_table *at, vtex_reader *reader);
 /* Closes a reader of this very table; it may hold a version. A reader whose thread was lost is
  * closed so by the writer, with the reader's place, and its seat is free again. VTEX_DONE,
@@ -309,13 +311,14 @@ uint32_t vtex_table_admit(vtex_table *at, vtex_reader *reader);
  * was opened anew is another one, whose readers of before are closed by vtex_reader_close. */
 uint32_t vtex_table_dismiss(vtex_table *at, vtex_reader *reader);
 /* Closes the table: VTEX_DONE. Readers that are open go on in its newest version; the last of all
- * gives the memory back. */
+ * gives the memory back (tested). */
 uint32_t vtex_table_close(vtex_table *at);
 
 /* The number of a reader, from 0 on, by which `waiting` names it: VTEX_DONE, VTEX_CLOSED. */
 uint32_t vtex_reader_number(const vtex_reader *at, uint32_t *number);
-/* Takes hold of the newest version and tells it; it is never below one that this reader held
- * before. VTEX_DONE, VTEX_CLOSED, VTEX_NOT_HELD where it holds one already. */
+/* Takes hold of a version that was the newest at some time of the call, and reports it; it is never
+ * below one that this reader held before. VTEX_DONE, VTEX_CLOSED, VTEX_NOT_HELD where it holds one
+ * already. */
 uint32_t vtex_reader_hold(vtex_reader *at, uint64_t *version);
 /* The first mapped page of a page's line in the held version: VTEX_DONE, VTEX_BAD_NUMBER,
  * VTEX_CLOSED, VTEX_NOT_HELD. */
@@ -327,14 +330,14 @@ uint32_t vtex_reader_texels(vtex_reader *at, const vtex_point *points, size_t co
     size_t bytes);
 /* The texels of a run, as those of vtex_reader_texels, and the page that each of them wants, as
  * vtex_cache_pass_pages takes them. `wanted` is the run's count, `bytes` 3 times the depth for
- * each. All places are the texture's. Answers as vtex_reader_texels. */
+ * each. All places are the texture's. Returns as vtex_reader_texels. */
 uint32_t vtex_reader_run(vtex_reader *at, const vtex_span *span, uint8_t *out, size_t bytes,
     uint32_t *pages, size_t wanted);
 /* The texels of a run by bilinear filtering, as `vtex walk --filter bilinear` blends them: each is
  * the blend of four of the wanted level, the one that its place lies in and its neighbours to the
  * right and below, the first behind the last, each from the first mapped page of the line of its
  * own page. They weigh by how far the place lies from them, to 1/256 texel: at whole numbers of
- * the level the first is all. The pages are those of vtex_reader_run, and it answers as that. */
+ * the level the first is all. The pages are those of vtex_reader_run, and it returns as that. */
 uint32_t vtex_reader_blended_run(vtex_reader *at, const vtex_span *span, uint8_t *out, size_t bytes,
     uint32_t *pages, size_t wanted);
 /* Holds its version no longer: VTEX_DONE, VTEX_CLOSED, VTEX_NOT_HELD. */

@@ -79,7 +79,7 @@ def build(compiler, source, name, *flags):
 
 
 def build_all():
-    for name in ("geometry", "cache", "table", "promises"):
+    for name in ("geometry", "cache", "table", "promises", "own_heap"):
         source = "tests/engine/%s.c" % name
         build(["gcc"], source, name)
         build(["gcc"], source, name + "_checked", *SANITIZERS)
@@ -93,7 +93,7 @@ def build_all():
 
 
 def try_calls():
-    for name in ("geometry", "geometry_checked", "cache", "cache_checked", "table", "table_checked", "promises", "promises_checked", "refused"):
+    for name in ("geometry", "geometry_checked", "cache", "cache_checked", "table", "table_checked", "promises", "promises_checked", "own_heap", "own_heap_checked", "refused"):
         try_call("./" + name)
     for name in ("shared", "shared_checked", "shared_raced"):
         for words in SHARED:
