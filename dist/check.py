@@ -231,10 +231,13 @@ def proved_now(crate):
 
 
 def make_modules():
-    """Makes the viewer's WebAssembly modules, where their sources are not those of SOURCES."""
+    """Makes the viewer's WebAssembly modules of the library as it was proved."""
     if shutil.which("wasm-opt") is None:
         raise Flaw("wasm-opt is not installed (Debian: binaryen), so vtex32.wasm cannot be made")
     run(sys.executable, "examples/viewer/build.py")
+    for it in ARTEFACTS:
+        if it.built is None:
+            os.chmod(f"{TOP}/{it.path}", 0o644)
 
 
 def make(logs):

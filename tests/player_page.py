@@ -181,8 +181,22 @@ def try_hands(check, browser, site, walk):
     check.say(text.split(" ")[1] == str(at()[1]), "a click on an event: %s" % text)
     page.call("Input.dispatchMouseEvent", type="mouseMoved", **page.ask(OVER % (0.1, 0.25)))
     page.until("document.getElementById('pixel-said').textContent.includes('sampler')")
+    try_where(check, page, walk)
     is_quiet(check, page, "hands")
     page.close()
+
+
+def try_where(check, page, walk):
+    """The camera of the shown picture on the store's map, which is read once its section is opened."""
+    page.ask("document.querySelector('#where summary').click()")
+    page.until("!!document.querySelector('#where vtex-view')?.engine?.isSharp")
+    page.until(BEGIN)
+    picture, view = walk.journal.passes[page.ask("player.shown.pass") - 1].picture, "document.querySelector('#where vtex-view')"
+    u, v = walk.path.cameras[picture][:2]
+    due = [(u / 256) % walk.store.geometry.width, (v / 256) % walk.store.geometry.height]
+    mark = page.ask("(({ u, v }) => [Number(u), Number(v)])(%s.querySelector('.camera').dataset)" % view)
+    check.say(mark == due, "the camera on the map: %s, %s is due" % (mark, due))
+    check.say(page.ask(view + ".store.width") == walk.store.geometry.width, "the map is the store's")
 
 
 def try_requests(check, browser, site, walk):

@@ -563,7 +563,7 @@ def test_heights(bench):
     page.ask("viewer.set({ hillshade: false })")
     plain = page.pixels("viewer.screen.pixels(viewer.look)")
     at = 4 * (WIDE * (HIGH // 2) + WIDE // 2)
-    check(0 < lit[at] < plain[at], "ground that rises to the east lies away from the light")
+    check(0 < plain[at] < lit[at], "ground that rises to the east faces the light from the west")
     check(page.ask("getComputedStyle(heights).display") != "none", "its controls are there")
     is_quiet(page, "heights")
     page.close()
@@ -628,11 +628,13 @@ def test_hands(bench):
 
 
 def drag(page, mouse):
+    """A quick drag to the right, at its own times, since the machine may be slow."""
     page.ask("viewer.canvas.focus()")
-    mouse("mousePressed", 300, 200, button="left", buttons=1, clickCount=1)
-    for x in (310, 320, 330, 340):
-        mouse("mouseMoved", x, 200, button="left", buttons=1)
-    mouse("mouseReleased", 340, 200, button="left")
+    begun, held = time.time(), {"button": "left", "buttons": 1}
+    mouse("mousePressed", 300, 200, clickCount=1, timestamp=begun, **held)
+    for i in range(1, 5):
+        mouse("mouseMoved", 300 + 10 * i, 200, timestamp=begun + 0.016 * i, **held)
+    mouse("mouseReleased", 340, 200, button="left", timestamp=begun + 0.07)
 
 
 def test_flights(bench):

@@ -92,7 +92,7 @@ function takePointers(canvas, on, engineOf) {
     if (!downs.has(event.pointerId)) return;
     const [x, y] = middle(), before = between();
     downs.set(event.pointerId, placed(event));
-    const [newX, newY] = middle(), after = between(), now = performance.now(), time = Math.max(now - last, 4);
+    const [newX, newY] = middle(), after = between(), now = event.timeStamp, time = Math.max(now - last, 4);
     if (event.shiftKey && downs.size === 1 && engine.look.view.mode === 'map') {
       twisted(engine, (newX - x) / 200);
       return;
@@ -108,7 +108,7 @@ function takePointers(canvas, on, engineOf) {
   });
   const up = (event) => {
     if (!downs.delete(event.pointerId) || downs.size > 0) return;
-    if (event.type === 'pointerup' && event.pointerType !== undefined && performance.now() - last < LATE && !isStill()) coast(performance.now());
+    if (event.type === 'pointerup' && event.timeStamp - last < LATE && !isStill()) coast(performance.now());
   };
   for (const name of ['pointerup', 'pointercancel', 'lostpointercapture']) on(name, up);
   on('wheel', rest, { passive: true });

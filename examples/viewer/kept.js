@@ -5,9 +5,11 @@
 // what was used longest ago goes first. Where the browser refuses storage, as in some private windows, nothing is kept and all else goes on.
 
 const NAME = 'vtex', MOST = 256e6, ENOUGH = 0.75, OPEN_LIMIT = 2000;
-const PIECES = 'pieces', USES = 'uses';
+const PIECES = 'pieces', USES = 'uses', NOTED_AFTER = 1000;
 
 let database = null, total = 0;
+// When pieces were used, by their keys, that was not written down yet: it is written together, since a reading waits for no other, but for a writing.
+let used = new Map(), noting = null;
 
 const resultOf = (request) => new Promise((done, fail) => {
   request.onsuccess = () => done(request.result);
@@ -39,6 +41,22 @@ function opened() {
     }
   });
   return database;
+}
+
+// Notes that pieces were used now.
+function use(known, keys) {
+  for (const key of keys) used.set(key.join('\n'), [key, Date.now()]);
+  noting ??= setTimeout(() => noteUses(known).catch(() => {}), NOTED_AFTER);
+}
+
+async function noteUses(known) {
+  clearTimeout(noting);
+  const uses = [...used.values()];
+  [used, noting] = [new Map(), null];
+  if (uses.length === 0) return;
+  const transaction = known.transaction(USES, 'readwrite', { durability: 'relaxed' });
+  for (const [key, time] of uses) transaction.objectStore(USES).put({ used: time }, key);
+  await endOf(transaction);
 }
 
 export class Kept {
@@ -104,19 +122,20 @@ export class Kept {
   async read(start, bytes) {
     const end = start + bytes.length, pieces = this.piecesOf(start, end);
     if (pieces === null) return false;
+    const keys = pieces.map(([from, to]) => [this.name, from, to]);
     try {
-      const transaction = this.known.transaction([PIECES, USES], 'readwrite', { durability: 'relaxed' });
-      const found = await Promise.all(pieces.map(([from, to]) => resultOf(transaction.objectStore(PIECES).get([this.name, from, to]))));
+      const store = this.known.transaction(PIECES).objectStore(PIECES), found = await Promise.all(keys.map((key) => resultOf(store.get(key))));
       const gone = pieces.filter(([from, to], i) => found[i]?.length !== to - from);
       if (gone.length > 0) {
         this.pieces = this.pieces.filter((piece) => !gone.includes(piece));
+        await this.remove(keys.filter((_, i) => gone.includes(pieces[i])));
         return false;
       }
       pieces.forEach(([from, to], i) => {
         const first = Math.max(from, start), last = Math.min(to, end);
         bytes.set(found[i].subarray(first - from, last - from), first - start);
-        transaction.objectStore(USES).put({ used: Date.now() }, [this.name, from, to]);
       });
+      use(this.known, keys);
       return true;
     } catch {
       return false;
@@ -147,6 +166,7 @@ export class Kept {
 
   // Gives up what was used longest ago until no more than so many bytes are kept.
   async trim(bytes) {
+    await noteUses(this.known);
     const transaction = this.known.transaction([PIECES, USES], 'readwrite', { durability: 'relaxed' }), gone = new Set();
     const request = transaction.objectStore(USES).index('used').openKeyCursor();
     request.onsuccess = () => {

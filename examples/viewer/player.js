@@ -5,6 +5,8 @@
 import { eventLine, eventsOf, lastPasses, lineOfPass, passOfVersion } from './journal.js';
 import { coarserThanWanted, countsOf, drawLine, drawRows, EventList, imageOf, legendOf, passAt, Residency, rowAt, scaleOf, versionAt } from './player-views.js';
 import { nameOf, storeLine } from './geometry.js';
+import { flightsOf } from './path.js';
+import { Where } from './player-where.js';
 import { LOST, MAP, pictureFile, pixelOf, sampleAt, Table, UNMAP } from './replay.js';
 
 const FILES = ['store', 'path', 'journal'];
@@ -35,8 +37,9 @@ function ask(job, said) {
 
 const files = Object.fromEntries(FILES.map((name) => [name, words.get(name)]));
 let walk = null, pass = 0, version = 0, isPlaying = false;
-let counts, written, table, pixelTable, residency, wanted;
+let counts, flights, written, table, pixelTable, residency, wanted;
 let drawn = null, pending = null, kept = new Map();
+const where = new Where(at('where'), at('where-map'));
 const events = new EventList(at('events'), at('events-all'), (chosen) => show(pass, chosen));
 
 const fileName = (file) => (typeof file === 'string' ? file : file.name);
@@ -79,6 +82,8 @@ function sayFile(name, { store, path, journal }, failed) {
 function begin() {
   const { store, journal } = walk;
   counts = countsOf(journal);
+  flights = flightsOf(walk.path);
+  at('viewer').href = typeof files.store === 'string' ? `index.html?store=${encodeURIComponent(files.store)}` : 'index.html';
   written = new Set(lastPasses(journal));
   [table, pixelTable] = [new Table(journal, store.pages), new Table(journal, store.pages)];
   [kept, drawn, pending, wanted, painted] = [new Map(), null, null, new Int32Array(store.pages), {}];
@@ -129,6 +134,7 @@ function showNow() {
   residency.draw(table.frames, wanted, (page) => freshPages().has(page));
   sayPass();
   sayVersion();
+  where.show(sourceFor(files.store), walk.store, pass > 0 ? flights[journal.picture[pass]] : null);
   keepAddress();
 }
 
