@@ -710,7 +710,7 @@ TESTS = (
     test_flights,
     test_access,
 )
-LONG = (test_shapes, test_access, test_paths, test_types)
+LONG = (test_shapes, test_access, test_paths, test_types, test_hands, test_flights)
 
 
 def run(words):
