@@ -48,8 +48,9 @@ esac
 # later.
 [ "$(uname -s)" = Linux ] || fail "the program is for Linux; this is $(uname -s)"
 [ "$(uname -m)" = x86_64 ] || fail "the program is for x86-64 processors; this is $(uname -m)"
+cpuinfo=${VTEX_CPUINFO-/proc/cpuinfo}
 for flag in cx16 lahf_lm popcnt sse4_1 sse4_2 ssse3; do
-    grep -qw "$flag" "${VTEX_CPUINFO-/proc/cpuinfo}" ||
+    [ ! -r "$cpuinfo" ] || grep -qw "$flag" "$cpuinfo" ||
         fail "the program needs an x86-64-v2 processor; this one has no $flag"
 done
 libc=$(getconf GNU_LIBC_VERSION 2>/dev/null || :)

@@ -385,6 +385,8 @@ def try_install(trial, room):
     for surroundings, said in refused:
         status, text = install(trial, prefix, **surroundings)
         say(status == 1 and said in text and not os.path.exists(prefix), f"{said}: {status} {text}")
+    status, text = install(trial, VTEX_CPUINFO=f"{room}/none")
+    say(status == 0, f"a machine whose processor is not known: {text}")
     for version in ("2.34", "2.100", "3.0"):
         status, text = install(trial, PATH=stands(trial, "getconf", f"echo glibc {version}"))
         say(status == 0, f"glibc {version}: {text}")

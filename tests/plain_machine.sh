@@ -1,27 +1,38 @@
 #!/usr/bin/env bash
-# Tries the release as its users have it: in a clean Debian 12 without the toolchain, with git, compilers, CMake, pkg-config and Python alone.
+# Tries the release as its users have it: in a clean Debian 12 without the toolchain, with git,
+# compilers, CMake, pkg-config and Python alone.
 #
 # usage: plain_machine.sh [--keep] [ROOM]
 #
-# Makes the system by debootstrap in ROOM (a new folder where it is left out; some 700 MB), clones what is committed here into it, and runs there
-# `sh dist/install.sh`, `bash test`, the commands of README.md's flight, and a program over the library by pkg-config, by CMake and from Python. Needs root,
-# debootstrap and a mirror (MIRROR, http://deb.debian.org/debian where it is not set). By hand, and before each release. The status is 0 where all held.
+# Makes the system by debootstrap in ROOM (a new folder where it is left out; some 700 MB), clones
+# what is committed here into it, and runs there `sh dist/install.sh`, the flight of README.md, a
+# program over the library by pkg-config, by CMake and from Python, and `bash test`. Needs root,
+# debootstrap and a mirror (MIRROR, http://deb.debian.org/debian where it is not set). By hand, and
+# before each release. The status is 0 where all held. --keep leaves ROOM for the next run.
 set -eu
 top=$(cd "$(dirname "$0")/.." && pwd)
 keep=
 [ "${1-}" != --keep ] || { keep=yes; shift; }
-command -v debootstrap >/dev/null || { echo "plain_machine.sh: debootstrap is not installed" >&2; exit 1; }
-[ "$(id -u)" = 0 ] || { echo "plain_machine.sh: run it as root" >&2; exit 1; }
+fail() {
+    echo "plain_machine.sh: $*" >&2
+    exit 1
+}
+command -v debootstrap >/dev/null || fail "debootstrap is not installed"
+[ "$(id -u)" = 0 ] || fail "run it as root"
 room=${1-$(mktemp -d)}
 mkdir -p "$room"
 leave() {
-    umount "$room/proc" "$room/dev/shm" 2>/dev/null || :
-    [ -n "$keep" ] || rm -rf "$room"
+    umount -l "$room/proc" "$room/dev/shm" 2>/dev/null || :
+    [ -n "$keep" ] || rm -rf --one-file-system "$room"
 }
 trap leave EXIT
 if [ ! -x "$room/bin/bash" ]; then
-    debootstrap --variant=minbase --include=ca-certificates,git,gcc,g++,make,cmake,pkg-config,python3,man-db \
-        bookworm "$room" "${MIRROR-http://deb.debian.org/debian}" >"$room.log" 2>&1 || { tail -20 "$room.log" >&2; exit 1; }
+    packages=ca-certificates,git,gcc,g++,make,cmake,pkg-config,python3,man-db
+    if ! debootstrap --variant=minbase --include=$packages bookworm "$room" \
+        "${MIRROR-http://deb.debian.org/debian}" >"$room.log" 2>&1; then
+        tail -20 "$room.log" >&2
+        fail "debootstrap failed"
+    fi
 fi
 mount -t proc proc "$room/proc"
 mount -t tmpfs tmpfs "$room/dev/shm"
@@ -39,14 +50,18 @@ do_it sh dist/install.sh ~/.local
 export PATH=~/.local/bin:$PATH
 mkdir ~/flight && cd ~/flight
 
-# The flight of README.md: its first block with a walk. The image converter is not installed here, so a texture is made in place of a photograph.
+# The flight of README.md: its first block with a walk. The image converter is not installed here,
+# so a texture is made in place of a photograph.
 say "the flight of README.md"
 python3 - ~/vtex/README.md >commands <<'PYTHON'
 import re, sys
 text = open(sys.argv[1], encoding="utf-8").read()
-blocks = [block[0] or block[1] for block in re.findall(r"^```[a-z]*\n(.*?)^```|^((?: {4}[^\n]*\n)+)", text, re.DOTALL | re.MULTILINE)]
-lines = [line.strip() for line in next(block for block in blocks if "vtex walk" in block).splitlines()]
-print("\n".join("vtex gen 7 2048 1024 photo.ppm" if line.startswith(("convert ", "vips ", "magick ")) else re.split(r" {2,}#", line)[0] for line in lines))
+block = r"^```[a-z]*\n(.*?)^```|^((?: {4}[^\n]*\n)+)"
+blocks = ["".join(found) for found in re.findall(block, text, re.DOTALL | re.MULTILINE)]
+for line in next(it for it in blocks if "vtex walk" in it).splitlines():
+    if line.strip().startswith(("convert ", "vips ", "magick ")):
+        line = "vtex gen 7 2048 1024 photo.ppm"
+    print(re.split(r" {2,}#", line.strip())[0])
 PYTHON
 cat commands
 set -x; . ./commands; set +x
@@ -102,4 +117,5 @@ do_it sh dist/install.sh --uninstall ~/.local
 [ -z "$(git status --porcelain)" ] || { git status --short; exit 1; }
 echo "all of it held"
 END
-chroot "$room" env -i HOME=/home/reader PATH=/usr/bin:/bin LANG=C.UTF-8 TERM=dumb bash /home/reader/run.sh
+chroot "$room" env -i HOME=/home/reader PATH=/usr/bin:/bin LANG=C.UTF-8 TERM=dumb \
+    bash /home/reader/run.sh
