@@ -45,7 +45,7 @@ def contents(name):
 
 def make_stores(folder):
     """Stores of noise: their names, sides, tiles and depths."""
-    for name, width, height, tile, depth in (("a", 700, 500, 32, 1), ("wide", 300, 200, 16, 2), ("small", 65, 33, 4, 1), ("one", 50, 40, 64, 2), ("line", 1500, 3, 8, 1)):
+    for name, width, height, tile, depth in (("a", 700, 500, 32, 1), ("wide", 300, 200, 16, 2), ("small", 65, 33, 4, 1), ("one", 50, 40, 64, 2), ("line", 1500, 3, 8, 1), ("fine", 700, 500, 2, 1), ("sixteen", 700, 500, 16, 1)):
         _, texture = textures.read_image(b"".join(textures.noise(width, height, 7, depth)))
         with open(os.path.join(folder, name + ".vts"), "wb") as file:
             file.write(textures.store_of(depth, textures.chain_of(texture, tile), tile))
@@ -197,6 +197,22 @@ def test_few_frames(site, there, stores):
         page.close()
 
 
+def test_small_tiles(site, there, stores):
+    """A request has a whole row of wanted tiles, so that small ones stay usable: 16,000 tiles of two texels a side take some 200 requests."""
+    for name in ("fine", "sixteen"):
+        with open(os.path.join(site.folder, name + ".vts"), "rb") as file:
+            store = Store(file.read())
+        site.asked.clear()
+        page = there.open(site.base + "?store=stores/%s.vts&pinned=1#map=350,250,1&filter=nearest" % name, WIDE, HIGH)
+        say(sharp(page, 60), name + ": it becomes sharp")
+        look = Look(store, WIDE, HIGH, (350, 250, 1))
+        say(differ(shown(page, look), look) == 0, name + ": a pixel is not the store's texel")
+        most = 2 + sum(min(-(-HIGH // 2**k // store.geometry.tile) + 2, rows) for k, (_, _, _, rows, _) in enumerate(store.geometry.levels))
+        say(len(site.asked) <= most, "%s: %d requests, at most %d are due" % (name, len(site.asked), most))
+        say(page.told == [], name + ": " + " ".join(page.told))
+        page.close()
+
+
 # ---- a slow link, and the hand
 
 
@@ -285,7 +301,7 @@ def take_shots(site, there, folder):
         page.close()
 
 
-TESTS = (test_maps, test_blends, test_flights, test_faults, test_few_frames, test_link, test_hand, test_local_file)
+TESTS = (test_maps, test_blends, test_flights, test_faults, test_few_frames, test_small_tiles, test_link, test_hand, test_local_file)
 
 
 def test_page(shots, only):
