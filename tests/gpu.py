@@ -206,7 +206,9 @@ def fly(number, row, program):
         )  # fmt: skip
         prefix = "%s.%s." % (name, kind)
         path = ["--size", "96", "67", "--pictures", "30", "--still", "90", "--every", "20"]
-        ran = run("./gpu", name, *path, "--filter", kind, "--out", prefix, *options)
+        # However slow the machine is, the last picture is drawn when all has been read.
+        words = ["--wait", "60", "--filter", kind, "--out", prefix, *options]
+        ran = run("./gpu", name, *path, *words)
         lines = [tuple(map(float, found)) for found in LINE.findall(ran.stdout)]
         if not check(ran.returncode == 0 and lines, what + ran.stdout + ran.stderr):
             continue

@@ -51,6 +51,7 @@ const char *const USAGE = R"(usage: gpu STORE [options]
   --size W H      of the picture, 8 to 8192 a side (640 400)
   --pictures N    pictures of the flight, 0 to 1000000 (120)
   --still N       pictures standing at its end, 0 to 1000000 (60)
+  --wait S        seconds that it stands on there while tiles are read, 0 to 3600 (0)
   --filter F      nearest or linear (linear)
   --every N       write out each Nth picture and the last one, 1 to 1000000 (the last one alone)
   --out PREFIX    where to: PREFIX0000.ppm and, without a window, PREFIX0000.told
@@ -81,7 +82,7 @@ void need(uint32_t status, const std::string &what) {
 struct Options {
     std::string store, out;
     uint32_t frames = 256, batch = 32, loaders = 2, slow = 0;
-    int width = 640, height = 400, pictures = 120, still = 60, every = 0;
+    int width = 640, height = 400, pictures = 120, still = 60, every = 0, wait = 0;
     bool linear = true, by_hand = true;
 };
 
@@ -113,6 +114,8 @@ Options options_of(int count, char **words) {
         else if (name == "--size") {
             options.width = int(number(name, 8, 8192));
             options.height = int(number(name, 8, 8192));
+        } else if (name == "--wait") {
+            options.wait = int(number(name, 0, 3600));
         } else if (name == "--pictures" || name == "--still") {
             (name == "--still" ? options.still : options.pictures) = int(number(name, 0, 1000000));
             options.by_hand = false;
@@ -592,6 +595,8 @@ class Engine {
         pictures_++;
     }
     GLuint target() const { return targets_[0]; }
+    // Whether tiles were being read when the last picture was planned.
+    bool is_reading() const { return !reads_.empty(); }
 
     // Writes the last picture as PREFIX0000.ppm, and what its pixels were told as PREFIX0000.told:
     // four numbers a pixel, as the card has them. Rows go from the top. Prints a line.
@@ -898,6 +903,10 @@ int main(int count, char **words) {
     const int pictures = options.pictures + options.still;
     bool linear = options.linear;
     Camera camera = flight(store.head.shape, 0);
+    // Two rounds of feedback without a read: nothing more is wanted where the camera stands.
+    const int quiet_enough = 32;
+    int quiet = 0;
+    Clock::time_point standing;
     for (int i = 0; by_hand || i < pictures; i++) {
         if (!screen.move(camera, linear)) break;
         if (!by_hand) {
@@ -907,6 +916,15 @@ int main(int count, char **words) {
         engine.draw(camera, linear);
         screen.show(engine.target());
         const bool is_last = !by_hand && i == pictures - 1;
+        quiet = engine.is_reading() ? 0 : quiet + 1;
+        if (is_last && options.wait > 0 && quiet < quiet_enough) {
+            const auto now = Clock::now();
+            if (standing == Clock::time_point()) standing = now;
+            if (now - standing < std::chrono::seconds(options.wait)) {
+                i--;
+                continue;
+            }
+        }
         if (!options.out.empty() && (is_last || (options.every && i % options.every == 0))) {
             engine.write(!Screen::IS_WINDOW);
         }
