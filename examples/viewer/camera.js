@@ -170,5 +170,5 @@ export function turned(view, by) {
   return { ...view, c: Math.cos(angle), s: Math.sin(angle) };
 }
 
-/** How levels are chosen where nothing names it: the nearest one on a map, the finer one in a flight, as in vtex walk. */
-export const roundingOf = (view) => (view.mode === 'map' ? 'round' : 'floor');
+/** How levels are chosen where nothing names it: the closest one, but the finer one in a picture of a path, as in vtex walk. */
+export const roundingOf = (view) => (view.isWalk ? 'floor' : 'round');

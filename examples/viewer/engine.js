@@ -176,7 +176,8 @@ export class Engine extends EventTarget {
   move(view, isWalk = false) {
     if (this.isDestroyed) return;
     const its = isWalk ? { ...view, isWalk } : { ...byHand(view, this.canvas.width, this.canvas.height), isWalk: false };
-    this.set({ view: its, ...(its.mode === this.look.view.mode ? {} : { rounding: roundingOf(its) }) });
+    const rounding = roundingOf(its);
+    this.set({ view: its, ...(rounding === roundingOf(this.look.view) ? {} : { rounding }) });
   }
 
   /** Shows the whole texture. */
