@@ -45,7 +45,7 @@ NEEDS = {
     "rt": (lambda: shutil.which("rt"), "the toolchain is not installed"),
     "egl": (
         lambda: os.path.exists("/usr/include/EGL/egl.h"),
-        "EGL is not installed (Debian: libegl1-mesa-dev libgl1-mesa-dri)",
+        "EGL is not installed (Debian: libegl-dev libgl-dev libgl1-mesa-dri)",
     ),
 }
 FAULTS = ["faults/run.py", "--program", "PROGRAM", "--workers", "2", "--only", "replay"]
